@@ -1,0 +1,10 @@
+pub mod Values
+pub mod Queries
+pub mod Policies
+pub mod Extended
+pub mod Power
+pub mod Commands
+pub mod Reading
+pub mod Refusals
+pub mod Placed
+pub mod View

@@ -1,0 +1,73 @@
+// What a file has declared so far.
+ghost use mathlib.Core.Bool.{not, _||_};
+ghost use mathlib.Core.Path.{_≡_};
+ghost use Rattle.policy.specs.Commands.{attribute, operator, exclusion, fresh, limits, allowed, restricts};
+ghost use Rattle.policy.specs.Values.{is-standard, is-own};
+ghost use Rattle.policy.specs.View.{context};
+use super::Reader;
+use crate::checks::are_digits;
+use crate::checks::is_name;
+
+impl<'f> Reader<'f> {
+    // How many pairs the attributes have together.
+    pub fn pairs(&self) -> u8
+        ensures { λ r. ⌜ r ≡ context (now (self .entry)) .pairs ⌝ }
+    {
+        self.pairs
+    }
+
+    // Whether an attribute has this name.
+    pub(crate) fn declares(&self, name: &[u8]) -> bool
+        ensures { λ r. ⌜ r ≡ not (fresh (now (name .entry)) (context (now (self .entry)) .attributes)) ⌝ }
+    {
+        for i in 0..self.declared {
+            let from = self.attributes[i].name;
+            if &self.file[from..from + 8] == name {
+                return true;
+            }
+        }
+        false
+    }
+
+    // Whether an attribute of this name and count may be declared.
+    pub(crate) fn may_declare(&self, name: &[u8], count: u8) -> bool
+        ensures { λ r. ⌜ r ≡ allowed (context (now (self .entry))) (attribute (now (name .entry)) count) ⌝ }
+    {
+        if !is_name(name) {
+            return false;
+        }
+        if self.declares(name) {
+            return false;
+        }
+        count >= 1 && count <= 48 - self.pairs
+    }
+
+    // Whether an own operator of these digits may be declared.
+    pub(crate) fn may_add(&self, digits: &[u8]) -> bool
+        ensures { λ r. ⌜ r ≡ allowed (context (now (self .entry))) (operator (now (digits .entry))) ⌝ }
+    {
+        are_digits(digits) && self.operators < 8
+    }
+
+    // Whether two pairs may be said never to hold together.
+    pub(crate) fn may_exclude(&self, first: u8, second: u8) -> bool
+        ensures { λ r. ⌜ r ≡ restricts (context (now (self .entry))) (exclusion first second) ⌝ }
+    {
+        first < self.pairs && second < self.pairs && first != second
+    }
+
+    // Whether the attribute is there and has this many pairs or more.
+    pub(crate) fn limits(&self, attribute: u8, limit: u8) -> bool
+        ensures { λ r. ⌜ r ≡ limits (context (now (self .entry))) attribute limit ⌝ }
+    {
+        let i = attribute as usize;
+        i < self.declared && limit <= self.attributes[i].count
+    }
+
+    // Whether a two-operand code is that of a standard operator or of an own one.
+    pub(crate) fn has_operator(&self, code: u8) -> bool
+        ensures { λ r. ⌜ r ≡ is-standard code || is-own (context (now (self .entry)) .operators) code ⌝ }
+    {
+        (0x10..=0x15).contains(&code) || (code >= 0x20 && (code as usize) < 0x20 + self.operators)
+    }
+}
