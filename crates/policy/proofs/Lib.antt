@@ -2,4 +2,11 @@ pub mod Stacks
 pub mod Spelling
 pub mod Declared
 pub mod Steps
-pub mod Ends
+pub mod Scans
+pub mod Readers
+pub mod Digits
+pub mod Dependence
+pub mod Enumeration
+pub mod Files
+pub mod Lawful
+pub mod Worked

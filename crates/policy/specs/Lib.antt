@@ -8,3 +8,5 @@ pub mod Reading
 pub mod Refusals
 pub mod Placed
 pub mod View
+pub mod Laws
+pub mod Examples

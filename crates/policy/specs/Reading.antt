@@ -9,6 +9,7 @@ use lib.Dec.{eqb, leb, ltb}
 use lib.ListN.{length, getD}
 use Rattle.std.specs.declared.option.Option.{Option}
 use Rattle.std.specs.declared.option.Option.the-variants.{Some, None}
+use Rattle.std.specs.Options.{valueOr}
 use Rattle.policy.specs.declared.decision.Decision.the-variants.{NotApplicable}
 use Rattle.policy.specs.declared.opcode.Opcode.{Opcode}
 use Rattle.policy.specs.declared.kind.Kind.{Kind}
@@ -134,9 +135,13 @@ pub data Item : Type 0 where
   as-policy : p.Policy → Item
 
 -- the attribute that has the pair i: attributes have their pairs one after the other, from 0 on
-unfoldable pub attribute-of : List p.Attribute → ℕ → p.Attribute
-attribute-of [] i = nobody
-attribute-of (a ∷ ats) i = cond (ltb i (a .start + a .count)) a (attribute-of ats i)
+unfoldable pub attribute-with : List p.Attribute → ℕ → Option p.Attribute
+attribute-with [] i = None
+attribute-with (a ∷ ats) i = cond (ltb i (a .start + a .count)) (Some a) (attribute-with ats i)
+
+-- the target of the pair i
+abbrev pub target-of : List p.Attribute → ℕ → p.Target
+target-of ats i = p.pair (valueOr (attribute-with ats i) nobody) i
 
 abbrev pub changes : ℕ → List Item → List Item
 changes code [] = []
@@ -160,7 +165,7 @@ guards (as-policy r ∷ as-target t ∷ s) = as-policy (p.guarded t r) ∷ s
 guards (as-policy r ∷ as-policy q ∷ s) = []
 
 abbrev pub does : Context → Action → List Item → List Item
-does x (push-pair i) s = as-target (p.pair (attribute-of (x .attributes) i) i) ∷ s
+does x (push-pair i) s = as-target (target-of (x .attributes) i) ∷ s
 does x (push d) s = as-policy (p.always d) ∷ s
 does x (change code) s = changes code s
 does x (combine code) s = combines (digits-of (x .operators) code) s

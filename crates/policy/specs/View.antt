@@ -1,5 +1,5 @@
 -- What the program's types stand for, in the words of the format.
-use mathlib.Core.Bool.{Bool, true, false, cond}
+use mathlib.Core.Bool.{Bool, true, false, cond, _||_}
 use mathlib.Core.List.{List, [], _∷_, map}
 use mathlib.Core.Path.{_≡_}
 use Prim.Native.Nat.{ℕ, zero, suc, _+_, _-_, _≤_}
@@ -10,6 +10,7 @@ use Rattle.std.specs.declared.result.Result.{Result}
 use Rattle.std.specs.declared.result.Result.the-variants.{Ok, Err}
 use Rattle.policy.specs.declared.command.Attribute.{Attribute}
 use Rattle.policy.specs.declared.command.Command.{Command}
+use Rattle.policy.specs.declared.commands.Commands.{Commands}
 use Rattle.policy.specs.declared.fault.ReadFault.{ReadFault}
 use Rattle.policy.specs.declared.opcode.Opcode.{Opcode}
 use Rattle.policy.specs.declared.reader.Declaration.{Declaration}
@@ -19,10 +20,10 @@ use Rattle.policy.specs.declared.kind.Kind.{Kind}
 use Rattle.policy.specs.declared.kind.Kind.the-variants.{Target}
 use Rattle.policy.specs.declared.kinds.Kinds.{Kinds}
 use Rattle.policy.specs.declared.operator.Row.{Row}
-use Rattle.policy.specs.Values.{Digits, standard, is-standard}
+use Rattle.policy.specs.Values.{Digits, standard, is-standard, is-own, digits-of}
 use Rattle.policy.specs.Policies as p
 use Rattle.policy.specs.Commands as c
-use Rattle.policy.specs.Reading.{Progress, Step, refused, took, step, command-step, checked}
+use Rattle.policy.specs.Reading.{Progress, Step, refused, took, step, command-step, checked, Scan, scan, Reading, fault, well}
 use Rattle.policy.specs.Refusals.{number, place as fault-place}
 
 abbrev pub command : Command → c.Command
@@ -136,7 +137,34 @@ abbrev pub Unless-taken : Result Command ReadFault → Reader → Reader → Typ
 Unless-taken (Ok x) old new = Unit {0}
 Unless-taken (Err f) old new = new ≡ old
 
--- ---- what is asked of the declarations
+-- what is still ahead of a reader
+abbrev pub ahead : Reader → Scan
+ahead r = scan (suc (length (bytes r))) (progress r) (bytes r) (place r)
+
+-- ---- what was declared
 
 abbrev pub attribute : Attribute → p.Attribute
 attribute a = record { name = a .name .now; start = a .start; count = a .count }
+
+-- the operator of a code, and none where there is no such operator
+abbrev pub Row-of : Option Row → List Digits → ℕ → Type 0
+Row-of None own code = (is-standard code || is-own own code) ≡ false
+Row-of (Some row) own code = ((is-standard code || is-own own code) ≡ true) × (row .entries ≡ digits-of own code) × (c.are-digits (row .entries) ≡ true)
+
+-- ---- a whole file
+
+-- the answer of a check is what the file reads to: how many pairs it has, or the fault by its number and place
+abbrev pub Answers : Result ℕ ReadFault → Reading → Type 0
+Answers (Ok n) (well f) = n ≡ f .pairs
+Answers (Ok n) (fault m p) = ⊥
+Answers (Err e) (well f) = ⊥
+Answers (Err e) (fault m p) = (number e ≡ m) × (fault-place e ≡ p)
+
+-- the commands that are still to come
+abbrev pub to-come : Commands → List c.Command
+to-come s = cond (s .over) [] (ahead (s .reader) .commands)
+
+-- the first of them is yielded, and the others are then to come; or there are none
+abbrev pub Yields : Option Command → Commands → Commands → Type 0
+Yields None old new = (to-come old ≡ []) × (to-come new ≡ [])
+Yields (Some x) old new = (to-come old ≡ command x ∷ to-come new) × (next-step (old .reader) ≡ told (Ok x) (new .reader))

@@ -1,3 +1,6 @@
+ghost use mathlib.Core.Path.{_≡_};
+ghost use Rattle.policy.specs.Commands as commands;
+ghost use Rattle.policy.specs.View.{command};
 use crate::Decision;
 
 // A command with its operands, which are parts of the file.
@@ -21,6 +24,18 @@ pub enum Command<'f> {
     Combine { code: u8 },
     Guard,
     End,
+}
+
+impl Command<'_> {
+    // Whether it is the end of the file.
+    pub fn is_end(self) -> bool
+        ensures { λ r. ⌜ r ≡ commands.is-end (command (self .entry)) ⌝ }
+    {
+        match self {
+            Command::End => true,
+            _ => false,
+        }
+    }
 }
 
 // An attribute that a file declares: its values are the pairs from `start` on.

@@ -172,9 +172,9 @@ impl<'f> Reader<'f> {
         if kinds.depth() > 16 {
             return Err(ReadFault::StackFull { place });
         }
-        let Command::End = taken else {
+        if !taken.is_end() {
             return Ok(kinds);
-        };
+        }
         if !kinds.is_one_policy() {
             return Err(ReadFault::Ending { place });
         }

@@ -1,12 +1,9 @@
 use mathlib.Core.Path.{_≡_, refl, sym, ap, _∙_}
-use mathlib.Core.Bool.{true}
 use Prim.Native.Nat.{ℕ, _<_, _≤_}
 use native.Mathlib.Omega.{arith}
 use lib.ListN.{length}
 use Rattle.policy.specs.declared.kinds.Kinds.{Kinds}
-use Rattle.policy.specs.Commands.{is-end}
 use Rattle.policy.specs.View.{progress, bytes, place, command, stack}
-use Rattle.policy.proofs.Ends.{not-end}
 use Rattle.policy.proofs.Stacks.{length-stacked}
 use Rattle.policy.proofs.Steps.{operand-refused, items-refused, stack-full, wrong-end, byte-after, taken-on, taken-last}
 use Rattle.policy.proofs.reader.Reader.settled.Needs as need
@@ -31,29 +28,27 @@ returns-then-depth-gt16 c =
     let l = length-stacked (k .items) (k .depth) in
     stack-full (progress r) (bytes r) (place r) (c .args .opcode) (command (c .args .taken)) (stack k) (c .if-not-allows .ensures tt) (c .in-Some .ensures tt) (omega (arith, l, c .depth .ensures))
 
-pub returns-in-rest-taken : need.returns-in-rest-taken
-returns-in-rest-taken c =
+pub returns-then-not-is-end : need.returns-then-not-is-end
+returns-then-not-is-end c =
     let r = c .args .self .now in
     let k = c .in-Some .kinds in
     record {
       allows = sym (c .if-not-allows .ensures tt);
       few = omega (arith, c .depth .ensures);
-      is = taken-on (progress r) (bytes r) (place r) (c .args .opcode) (command (c .args .taken)) (stack k) (c .if-not-allows .ensures tt) (c .in-Some .ensures tt) (fits k _ (c .depth .ensures) (c .if-depth-gt16 .left)) (not-end _ (c .in-rest-taken .not-End));
+      is = taken-on (progress r) (bytes r) (place r) (c .args .opcode) (command (c .args .taken)) (stack k) (c .if-not-allows .ensures tt) (c .in-Some .ensures tt) (fits k _ (c .depth .ensures) (c .if-depth-gt16 .left)) (sym (c .if-not-is-end .ensures tt));
     }
 
 pub returns-then-not-is-one-policy : need.returns-then-not-is-one-policy
 returns-then-not-is-one-policy c =
     let r = c .args .self .now in
     let k = c .in-Some .kinds in
-    let last : is-end (command (c .args .taken)) ≡ true = ap (λ x. is-end (command x)) (c .in-End .is) in
-    wrong-end (progress r) (bytes r) (place r) (c .args .opcode) (command (c .args .taken)) (stack k) (c .if-not-allows .ensures tt) (c .in-Some .ensures tt) (fits k _ (c .depth .ensures) (c .if-depth-gt16 .left)) last (sym (c .if-not-is-one-policy .ensures tt))
+    wrong-end (progress r) (bytes r) (place r) (c .args .opcode) (command (c .args .taken)) (stack k) (c .if-not-allows .ensures tt) (c .in-Some .ensures tt) (fits k _ (c .depth .ensures) (c .if-depth-gt16 .left)) (sym (c .if-not-is-end .ensures tt)) (sym (c .if-not-is-one-policy .ensures tt))
 
 pub returns-then-place-self : need.returns-then-place-self
 returns-then-place-self c =
     let r = c .args .self .now in
     let k = c .in-Some .kinds in
-    let last : is-end (command (c .args .taken)) ≡ true = ap (λ x. is-end (command x)) (c .in-End .is) in
-    byte-after (progress r) (bytes r) (place r) (c .args .opcode) (command (c .args .taken)) (stack k) (c .if-not-allows .ensures tt) (c .in-Some .ensures tt) (fits k _ (c .depth .ensures) (c .if-depth-gt16 .left)) last (sym (c .if-not-is-one-policy .ensures tt)) (c .if-place-self .taken)
+    byte-after (progress r) (bytes r) (place r) (c .args .opcode) (command (c .args .taken)) (stack k) (c .if-not-allows .ensures tt) (c .in-Some .ensures tt) (fits k _ (c .depth .ensures) (c .if-depth-gt16 .left)) (sym (c .if-not-is-end .ensures tt)) (sym (c .if-not-is-one-policy .ensures tt)) (c .if-place-self .taken)
 
 pub returns : need.returns
 returns c =
