@@ -135,8 +135,8 @@ ahead-next : (k : Progress) (file : List ℕ) (p : ℕ) (s : Step) → s ≡ ste
 ahead-next k file p s e =
     let n = length file in
     scan-next n k file p s e ∙ agree-on s (λ k′ q. scan n k′ file q) (λ k′ q. scan (suc n) k′ file q) (λ c k′ q t.
-      let i = step-takes k file p c k′ q (t ∙ e) in
-      same-scan n (suc n) k′ file q (i .later) (omega (arith, i .next)) (omega arith))
+    let i = step-takes k file p c k′ q (t ∙ e) in
+    same-scan n (suc n) k′ file q (i .later) (omega (arith, i .next)) (omega arith))
 
 -- ---- a step from where a reader stands, by the way that it goes
 

@@ -18,6 +18,11 @@ pub(crate) fn wrong_opening(file: &[u8]) -> Option<usize>
     None
 }
 
+// The bytes that a name may have before its 00.
+const FIRST_PRINTABLE: u8 = 0x21;
+
+const LAST_PRINTABLE: u8 = 0x7e;
+
 // Whether these are printable bytes, at least one, and then 00.
 pub(crate) fn is_name(name: &[u8]) -> bool
     ensures { λ r. ⌜ r ≡ is-name (now (name .entry)) ⌝ }
@@ -29,7 +34,7 @@ pub(crate) fn is_name(name: &[u8]) -> bool
                 return false;
             }
             ended = true;
-        } else if ended || *byte < 0x21 || *byte > 0x7e {
+        } else if ended || *byte < FIRST_PRINTABLE || *byte > LAST_PRINTABLE {
             return false;
         }
     }

@@ -6,6 +6,7 @@ ghost use Rattle.policy.specs.Placed.{Names-within, Operators-within, Operator
 use crate::kinds::Kinds;
 
 mod declared;
+mod standing;
 mod steps;
 
 // An attribute that was declared: its first pair, how many pairs it has, and the place of its name.

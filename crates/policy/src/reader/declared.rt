@@ -16,14 +16,12 @@ use crate::Row;
 use crate::checks::are_digits;
 use crate::checks::is_name;
 
-impl<'f> Reader<'f> {
-    // How many pairs the attributes have together.
-    pub fn pairs(&self) -> u8
-        ensures { λ r. ⌜ r ≡ context (now (self .entry)) .pairs ⌝ }
-    {
-        self.pairs
-    }
+// How many pairs and own operators a file may have.
+const MOST_PAIRS: u8 = 48;
 
+const MOST_OPERATORS: usize = 8;
+
+impl<'f> Reader<'f> {
     // Whether an attribute has this name.
     pub(crate) fn declares(&self, name: &[u8]) -> bool
         ensures { λ r. ⌜ r ≡ not (fresh (now (name .entry)) (context (now (self .entry)) .attributes)) ⌝ }
@@ -47,14 +45,14 @@ impl<'f> Reader<'f> {
         if self.declares(name) {
             return false;
         }
-        count >= 1 && count <= 48 - self.pairs
+        count >= 1 && count <= MOST_PAIRS - self.pairs
     }
 
     // Whether an own operator of these digits may be declared.
     pub(crate) fn may_add(&self, digits: &[u8]) -> bool
         ensures { λ r. ⌜ r ≡ allowed (context (now (self .entry))) (operator (now (digits .entry))) ⌝ }
     {
-        are_digits(digits) && self.operators < 8
+        are_digits(digits) && self.operators < MOST_OPERATORS
     }
 
     // Whether two pairs may be said never to hold together.

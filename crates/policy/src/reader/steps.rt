@@ -18,6 +18,11 @@ use crate::checks::wrong_opening;
 use crate::kinds::Kinds;
 use crate::opcode::Opcode;
 
+// How long a file may be, and how many items may stand on the stack.
+const MOST_BYTES: usize = 65_535;
+
+const MOST_ITEMS: usize = 16;
+
 impl<'f> Reader<'f> {
     // A reader before the opening of a file.
     pub fn new(file: &'f [u8]) -> Reader<'f>
@@ -43,13 +48,6 @@ impl<'f> Reader<'f> {
         }
     }
 
-    // Where the next command begins.
-    pub fn place(&self) -> usize
-        ensures { λ r. ⌜ r ≡ view.place (now (self .entry)) ⌝ }
-    {
-        self.place
-    }
-
     // Looks at the length and the opening of the file, if no one has yet.
     fn opened(&self) -> Result<(), ReadFault>
         ensures { λ r. ⌜ Opens r (now (self .entry)) ⌝ }
@@ -57,7 +55,7 @@ impl<'f> Reader<'f> {
         if self.part > 0 {
             return Ok(());
         }
-        if self.file.len() > 65535 {
+        if self.file.len() > MOST_BYTES {
             return Err(ReadFault::TooLong);
         }
         match wrong_opening(self.file) {
@@ -75,15 +73,16 @@ impl<'f> Reader<'f> {
         let place = self.place;
         let size = self.file.len();
         if place >= size {
-            return Err(ReadFault::CutShort { place: size });
+            return Err(ReadFault::CutShort { place });
         }
         let Some(opcode) = Opcode::of(self.file[place]) else {
             return Err(ReadFault::UnknownCommand { place });
         };
+        let next = place + 1 + opcode.size();
         if opcode.part() < self.part {
             return Err(ReadFault::EarlierPart { place });
         }
-        if size < place + 1 + opcode.size() {
+        if size < next {
             return Err(ReadFault::CutShort { place: size });
         }
         Ok(opcode)
@@ -169,7 +168,7 @@ impl<'f> Reader<'f> {
         let Some(kinds) = before.after(taken) else {
             return Err(ReadFault::Items { place });
         };
-        if kinds.depth() > 16 {
+        if kinds.depth() > MOST_ITEMS {
             return Err(ReadFault::StackFull { place });
         }
         if !taken.is_end() {

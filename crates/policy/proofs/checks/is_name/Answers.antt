@@ -10,7 +10,7 @@ use Rattle.std.proofs.shelf.Lists.{getD-past}
 use Rattle.policy.specs.Commands.{padded}
 use Rattle.policy.proofs.Spelling.{rest, name-zero, name-letter, name-ended, name-other, name-all, too-low, too-high, is-name-from, is-name-zero, is-name-not}
 use Rattle.policy.proofs.checks.is_name.Needs as need
-use Rattle.policy.proofs.checks.is_name.Needs.{then-ended·by·then-ended, then-ended·by·else-ended·then-byte-lt33, then-ended·by·else-ended·else-byte-lt33·then-byte-gt126, then-byte-eq0·else-i-eq0, else-byte-eq0·else-ended·else-byte-lt33·else-byte-gt126}
+use Rattle.policy.proofs.checks.is_name.Needs.{then-ended·by·then-ended, then-ended·by·else-ended·then-byte-lt-FIRST-PRINTABLE, then-ended·by·else-ended·else-byte-lt-FIRST-PRINTABLE·then-byte-gt-LAST-PRINTABLE, then-byte-eq0·else-i-eq0, else-byte-eq0·else-ended·else-byte-lt-FIRST-PRINTABLE·else-byte-gt-LAST-PRINTABLE}
 
 pub returns-then-i-eq0 : need.returns-then-i-eq0
 returns-then-i-eq0 c = is-name-zero _ (subst (λ i. getD (c .args .name .now) i 0 ≡ 0) (c .if-i-eq0 .taken) (c .if-byte-eq0 .taken))
@@ -23,8 +23,8 @@ returns-then-ended c =
     let nz = c .if-byte-eq0 .left in
     is-name-not _ (c .loop-i .inv .0 ∙ elim (c .then-ended .came) [
       | then-ended·by·then-ended w ↦ ap (λ t. rest t (drop i bs)) (w .if-ended .taken) ∙ name-ended bs i h nz
-      | then-ended·by·else-ended·then-byte-lt33 w ↦ name-other bs i _ h nz (too-low _ (w .if-byte-lt33 .taken))
-      | then-ended·by·else-ended·else-byte-lt33·then-byte-gt126 w ↦ name-other bs i _ h nz (too-high _ (w .if-byte-gt126 .taken))
+      | then-ended·by·else-ended·then-byte-lt-FIRST-PRINTABLE w ↦ name-other bs i _ h nz (too-low _ (w .if-byte-lt-FIRST-PRINTABLE .taken))
+      | then-ended·by·else-ended·else-byte-lt-FIRST-PRINTABLE·then-byte-gt-LAST-PRINTABLE w ↦ name-other bs i _ h nz (too-high _ (w .if-byte-gt-LAST-PRINTABLE .taken))
     ])
 
 pub loop-i-again : need.loop-i-again
@@ -37,8 +37,8 @@ loop-i-again c =
         c .loop-i .inv .0 ∙ name-zero bs i (c .loop-i .ended) h (w .if-byte-eq0 .taken) ∙ ap (λ t. rest t (drop (i + 1) bs)) (sym (w .ended-is)),
         λ _. let pos : 0 < i = omega arith in c .loop-i .inv .1 pos,
       )
-      | else-byte-eq0·else-ended·else-byte-lt33·else-byte-gt126 w ↦ (
-        c .loop-i .inv .0 ∙ ap (λ t. rest t (drop i bs)) (w .if-ended .left) ∙ name-letter bs i h (w .if-byte-lt33 .left) (w .if-byte-gt126 .left) ∙ ap (λ t. rest t (drop (i + 1) bs)) (sym (w .ended-is ∙ w .if-ended .left)),
+      | else-byte-eq0·else-ended·else-byte-lt-FIRST-PRINTABLE·else-byte-gt-LAST-PRINTABLE w ↦ (
+        c .loop-i .inv .0 ∙ ap (λ t. rest t (drop i bs)) (w .if-ended .left) ∙ name-letter bs i h (w .if-byte-lt-FIRST-PRINTABLE .left) (w .if-byte-gt-LAST-PRINTABLE .left) ∙ ap (λ t. rest t (drop (i + 1) bs)) (sym (w .ended-is ∙ w .if-ended .left)),
         λ _. ⊎-elim
             (λ (z : i ≡ 0). ne-eqb _ _ (subst (λ j. getD bs j 0 ≡ 0 → ⊥) z (w .if-byte-eq0 .left)))
             (λ (z : i ≡ 0 → ⊥). let pos : 0 < i = omega arith in c .loop-i .inv .1 pos)

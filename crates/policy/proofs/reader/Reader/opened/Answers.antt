@@ -10,11 +10,11 @@ returns-then-self-gt0 c =
     let r = c .args .self .now in
     record { short = r .short (c .if-self-gt0 .taken); within = r .within (c .if-self-gt0 .taken); is = step-later (progress r) (bytes r) (place r) (c .if-self-gt0 .taken) }
 
-pub returns-then-self-gt65535 : need.returns-then-self-gt65535
-returns-then-self-gt65535 c = let r = c .args .self .now in step-too-long (progress r) (bytes r) (place r) (c .if-self-gt0 .left) (c .if-self-gt65535 .taken)
+pub returns-then-self-gt-MOST-BYTES : need.returns-then-self-gt-MOST-BYTES
+returns-then-self-gt-MOST-BYTES c = let r = c .args .self .now in step-too-long (progress r) (bytes r) (place r) (c .if-self-gt0 .left) (c .if-self-gt-MOST-BYTES .taken)
 
 pub returns-in-Some : need.returns-in-Some
-returns-in-Some c = let r = c .args .self .now in step-wrong-opening (progress r) (bytes r) (place r) _ (c .if-self-gt0 .left) (c .if-self-gt65535 .left) (c .in-Some .ensures tt)
+returns-in-Some c = let r = c .args .self .now in step-wrong-opening (progress r) (bytes r) (place r) _ (c .if-self-gt0 .left) (c .if-self-gt-MOST-BYTES .left) (c .in-Some .ensures tt)
 
 pub returns-in-None : need.returns-in-None
 returns-in-None c =
@@ -23,4 +23,4 @@ returns-in-None c =
     let fresh : r .part ≡ 0 = omega arith in
     let at : r .place ≡ 5 = r .first fresh in
     let long = differs-long opening (bytes r) 0 none in
-    record { short = c .if-self-gt65535 .left; within = omega arith; is = step-opened (progress r) (bytes r) (place r) (c .if-self-gt0 .left) (c .if-self-gt65535 .left) none }
+    record { short = c .if-self-gt-MOST-BYTES .left; within = omega arith; is = step-opened (progress r) (bytes r) (place r) (c .if-self-gt0 .left) (c .if-self-gt-MOST-BYTES .left) none }

@@ -51,7 +51,8 @@ returns c =
     let from = getD (r .own) i 0 in
     let s : from + 9 - from ≡ 9 = omega arith in
     let part : c .copy-from-slice .last .self ≡ own-digits (r .file .now) from = c .copy-from-slice .ensures .after ∙ cut (r .file .now) from (from + 9) 9 s in
-    let h : c .args .code - 32 < r .operators = c .if-i-self .left in
-    (an-operator (context r .operators) (c .args .code) (c .if-code-lt32 .left) (omega (arith, long, h)),
-    part ∙ sym (own-of (context r .operators) (c .args .code) (c .if-code-lt32 .left) ∙ getD-first (own-digits (r .file .now)) (r .own) (r .operators) i 0 [] h (omega arith)),
-    ap are-digits part ∙ r .digits i h)
+    let h : c .args .code - 32 < r .operators = c .if-i-self .left in (
+      an-operator (context r .operators) (c .args .code) (c .if-code-lt32 .left) (omega (arith, long, h)),
+      part ∙ sym (own-of (context r .operators) (c .args .code) (c .if-code-lt32 .left) ∙ getD-first (own-digits (r .file .now)) (r .own) (r .operators) i 0 [] h (omega arith)),
+      ap are-digits part ∙ r .digits i h,
+    )

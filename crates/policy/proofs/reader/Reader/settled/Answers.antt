@@ -21,8 +21,8 @@ returns-in-rest c =
     let r = c .args .self .now in
     items-refused (progress r) (bytes r) (place r) (c .args .opcode) (command (c .args .taken)) (c .if-not-allows .ensures tt) (c .in-rest .ensures tt)
 
-pub returns-then-depth-gt16 : need.returns-then-depth-gt16
-returns-then-depth-gt16 c =
+pub returns-then-depth-gt-MOST-ITEMS : need.returns-then-depth-gt-MOST-ITEMS
+returns-then-depth-gt-MOST-ITEMS c =
     let r = c .args .self .now in
     let k = c .in-Some .kinds in
     let l = length-stacked (k .items) (k .depth) in
@@ -35,20 +35,20 @@ returns-then-not-is-end c =
     record {
       allows = sym (c .if-not-allows .ensures tt);
       few = omega (arith, c .depth .ensures);
-      is = taken-on (progress r) (bytes r) (place r) (c .args .opcode) (command (c .args .taken)) (stack k) (c .if-not-allows .ensures tt) (c .in-Some .ensures tt) (fits k _ (c .depth .ensures) (c .if-depth-gt16 .left)) (sym (c .if-not-is-end .ensures tt));
+      is = taken-on (progress r) (bytes r) (place r) (c .args .opcode) (command (c .args .taken)) (stack k) (c .if-not-allows .ensures tt) (c .in-Some .ensures tt) (fits k _ (c .depth .ensures) (c .if-depth-gt-MOST-ITEMS .left)) (sym (c .if-not-is-end .ensures tt));
     }
 
 pub returns-then-not-is-one-policy : need.returns-then-not-is-one-policy
 returns-then-not-is-one-policy c =
     let r = c .args .self .now in
     let k = c .in-Some .kinds in
-    wrong-end (progress r) (bytes r) (place r) (c .args .opcode) (command (c .args .taken)) (stack k) (c .if-not-allows .ensures tt) (c .in-Some .ensures tt) (fits k _ (c .depth .ensures) (c .if-depth-gt16 .left)) (sym (c .if-not-is-end .ensures tt)) (sym (c .if-not-is-one-policy .ensures tt))
+    wrong-end (progress r) (bytes r) (place r) (c .args .opcode) (command (c .args .taken)) (stack k) (c .if-not-allows .ensures tt) (c .in-Some .ensures tt) (fits k _ (c .depth .ensures) (c .if-depth-gt-MOST-ITEMS .left)) (sym (c .if-not-is-end .ensures tt)) (sym (c .if-not-is-one-policy .ensures tt))
 
 pub returns-then-place-self : need.returns-then-place-self
 returns-then-place-self c =
     let r = c .args .self .now in
     let k = c .in-Some .kinds in
-    byte-after (progress r) (bytes r) (place r) (c .args .opcode) (command (c .args .taken)) (stack k) (c .if-not-allows .ensures tt) (c .in-Some .ensures tt) (fits k _ (c .depth .ensures) (c .if-depth-gt16 .left)) (sym (c .if-not-is-end .ensures tt)) (sym (c .if-not-is-one-policy .ensures tt)) (c .if-place-self .taken)
+    byte-after (progress r) (bytes r) (place r) (c .args .opcode) (command (c .args .taken)) (stack k) (c .if-not-allows .ensures tt) (c .in-Some .ensures tt) (fits k _ (c .depth .ensures) (c .if-depth-gt-MOST-ITEMS .left)) (sym (c .if-not-is-end .ensures tt)) (sym (c .if-not-is-one-policy .ensures tt)) (c .if-place-self .taken)
 
 pub returns : need.returns
 returns c =
@@ -57,5 +57,5 @@ returns c =
     record {
       allows = sym (c .if-not-allows .ensures tt);
       few = omega (arith, c .depth .ensures);
-      is = taken-last (progress r) (bytes r) (place r) (c .args .opcode) (command (c .args .taken)) (stack k) (c .if-not-allows .ensures tt) (c .in-Some .ensures tt) (fits k _ (c .depth .ensures) (c .if-depth-gt16 .left)) (sym (c .if-not-is-one-policy .ensures tt)) (c .if-place-self .left);
+      is = taken-last (progress r) (bytes r) (place r) (c .args .opcode) (command (c .args .taken)) (stack k) (c .if-not-allows .ensures tt) (c .in-Some .ensures tt) (fits k _ (c .depth .ensures) (c .if-depth-gt-MOST-ITEMS .left)) (sym (c .if-not-is-one-policy .ensures tt)) (c .if-place-self .left);
     }

@@ -1,0 +1,22 @@
+-- One piece of text after another.
+use mathlib.Core.List.{List, [], _∷_, _++_, append-assoc, append-nil}
+use mathlib.Core.Path.{_≡_, refl, sym, ap, _∙_}
+use Prim.Native.Nat.{ℕ}
+use Rattle.inspect.specs.declared.text.Text.{Text}
+use Rattle.inspect.specs.Written.{written, Added}
+
+-- nothing was added
+pub nothing : (s : Text) → Added s s []
+nothing s = record { is = sym (append-nil (written s)) }
+
+-- a was added, and then b
+pub then : {s t u : Text} {a b : List ℕ} → Added s t a → Added t u b → Added s u (a ++ b)
+then {s} {t} {u} {a} {b} e f = record { is = f .is ∙ ap (λ l. l ++ b) (e .is) ∙ append-assoc (written s) a b }
+
+-- the same piece by another name
+pub named : {s t : Text} {a b : List ℕ} → a ≡ b → Added s t a → Added s t b
+named {s} {t} {a} {b} e f = record { is = f .is ∙ ap (λ l. written s ++ l) e }
+
+-- all of a text that was empty
+pub whole : {s t : Text} {a : List ℕ} → written s ≡ [] → Added s t a → written t ≡ a
+whole {s} {t} {a} e f = f .is ∙ ap (λ l. l ++ a) e

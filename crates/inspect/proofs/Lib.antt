@@ -1,0 +1,4 @@
+pub mod Keeping
+pub mod Joins
+pub mod Parts
+pub mod Stacking

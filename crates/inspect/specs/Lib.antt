@@ -1,0 +1,4 @@
+pub mod Plain
+pub mod Written
+pub mod Reports
+pub mod Trees

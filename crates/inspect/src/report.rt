@@ -1,0 +1,62 @@
+// What is printed of a file.
+ghost use mathlib.Core.Bool.{true};
+ghost use mathlib.Core.List.{List, _∷_, _++_};
+ghost use mathlib.Core.Path.{_≡_};
+ghost use Prim.Native.Nat.{ℕ};
+ghost use Rattle.std.specs.Vec.{made};
+ghost use Rattle.policy.specs.Reading.{reads};
+ghost use Rattle.policy.specs.Refusals as refusals;
+ghost use Rattle.inspect.specs.Plain.{all-plain};
+ghost use Rattle.inspect.specs.Reports.{refusal-line, pairs-line, Reports};
+ghost use Rattle.inspect.specs.Written.{written};
+use crate::failure::Failure;
+use crate::failure::FailureFromAlloc;
+use crate::formula::formula;
+use crate::lines::lines;
+use crate::show;
+use crate::text::Text;
+use policy::Commands;
+use policy::ReadFault;
+use policy::check;
+use std::alloc::AllocError;
+use std::alloc::Global;
+
+// The line for a file that is refused; reading is layer 1.
+fn refusal(heap: Global, fault: ReadFault) -> Result<Text, AllocError>
+    ensures { λ r. ⌜ made r (λ t. written t ≡ refusal-line (refusals.number fault) (refusals.place fault)) ⌝ }
+{
+    let mut text = Text::new(heap);
+    text.add("refused 1 ")?;
+    text.number(heap, fault.number() as usize)?;
+    text.add(" ")?;
+    text.number(heap, fault.place())?;
+    text.add("\n")?;
+    Ok(text)
+}
+
+// The commands, the formula and the number of pairs of a file that reads well.
+fn account(heap: Global, file: &[u8], pairs: u8) -> Result<Text, Failure>
+    ensures { λ r. ⌜ made r (λ t. (lines : List ℕ) × (written t ≡ lines ++ (10 ∷ pairs-line pairs))) ⌝ }
+{
+    let mut text = Text::new(heap);
+    let mut commands = Commands::of(file);
+    lines(heap, &mut text, &mut commands)?;
+    let policy = formula(heap, file)?;
+    text.add("formula: ")?;
+    show::policy(heap, &mut text, commands.reader(), &policy)?;
+    text.add("\npairs ")?;
+    text.number(heap, pairs as usize)?;
+    text.add("\n")?;
+    Ok(text)
+}
+
+// All that is printed of a file.
+pub fn report(heap: Global, file: &[u8]) -> Result<Text, Failure>
+    ensures exact { λ r. ⌜ made r (λ t. Reports (written t) (reads (now (file .entry)))) ⌝ }
+    ensures plain { λ r. ⌜ made r (λ t. all-plain (written t) ≡ true) ⌝ }
+{
+    match check(file) {
+        Ok(pairs) => account(heap, file, pairs),
+        Err(fault) => Ok(refusal(heap, fault)?),
+    }
+}

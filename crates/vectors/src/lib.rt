@@ -1,0 +1,3 @@
+// Many cases as tests. Expected values come from the documents of the format, never from the program.
+#[cfg(test)]
+mod reading;
