@@ -1,4 +1,8 @@
 pub mod Keeping
 pub mod Joins
+pub mod Naming
+pub mod Showing
 pub mod Parts
+pub mod Lining
 pub mod Stacking
+pub mod Reporting

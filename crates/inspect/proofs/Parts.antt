@@ -13,6 +13,7 @@ use Rattle.policy.specs.declared.kind.Kind.{Kind}
 use Rattle.policy.specs.declared.opcode.Opcode.{Opcode}
 use Rattle.policy.specs.declared.opcode.Opcode.the-variants.{Attribute, Operator, Exclusion, AtMost, AtLeast, Pair, Allow, Deny, Change, Combine, Guard, End}
 use Rattle.policy.specs.Commands.{Command, attribute, operator, restrict, act, Context, opcode, part, size, byte, command, declares, allowed, kinds-after, is-end, one-policy}
+use Rattle.inspect.specs.Lines.{after, size-of}
 use Rattle.policy.specs.Reading.{Progress, Step, refused, took, step, first-step, opened, command-step, begun, checked, settled, differs, opening, Scan, Stop, stopped, ended, before, goes-on, scan, scan-file, unopened}
 
 -- the part of the file that a command belongs to
@@ -36,22 +37,40 @@ same-part file p Combine = refl
 same-part file p Guard = refl
 same-part file p End = refl
 
--- a command that was taken: it belongs to no earlier part, and what is known after it
-record Follows (k : Progress) (c : Command) (k′ : Progress) : Type 0 where
-  order : leb (k .part) (part-of c) ≡ true
-  part : k′ .part ≡ part-of c
-  context : k′ .context ≡ declares c (k .context)
+same-size : (file : List ℕ) (p : ℕ) (o : Opcode) → size o ≡ size-of (command file p o)
+same-size file p Attribute = refl
+same-size file p Operator = refl
+same-size file p Exclusion = refl
+same-size file p AtMost = refl
+same-size file p AtLeast = refl
+same-size file p Pair = refl
+same-size file p Allow = refl
+same-size file p Deny = refl
+same-size file p Change = refl
+same-size file p Combine = refl
+same-size file p Guard = refl
+same-size file p End = refl
 
-data Taking (k : Progress) : Step → Type 0 where
-  not-taken : {n p : ℕ} → Taking k (refused n p)
-  is-taken : {c : Command} {k′ : Progress} {q : ℕ} → Follows k c k′ → Taking k (took c k′ q)
+-- a command that was taken at p: it belongs to no earlier part; what is known after it, and where the next one begins
+pub record Follows (k : Progress) (p : ℕ) (c : Command) (k′ : Progress) (q : ℕ) : Type 0 where
+  pub order : leb (k .part) (part-of c) ≡ true
+  pub part : k′ .part ≡ part-of c
+  pub context : k′ .context ≡ declares c (k .context)
+  pub next : q ≡ p + 1 + size-of c
 
-by-test : {k : Progress} {x y : Step} (b : Bool) → (b ≡ true → Taking k x) → (b ≡ false → Taking k y) → Taking k (cond b x y)
+data Taking (k : Progress) (p : ℕ) : Step → Type 0 where
+  not-taken : {n m : ℕ} → Taking k p (refused n m)
+  is-taken : {c : Command} {k′ : Progress} {q : ℕ} → Follows k p c k′ q → Taking k p (took c k′ q)
+
+by-test : {k : Progress} {p : ℕ} {x y : Step} (b : Bool) → (b ≡ true → Taking k p x) → (b ≡ false → Taking k p y) → Taking k p (cond b x y)
 by-test true f g = f refl
 by-test false f g = g refl
 
+taken-follows : {k : Progress} {p : ℕ} {c : Command} {k′ : Progress} {q : ℕ} → Taking k p (took c k′ q) → Follows k p c k′ q
+taken-follows (is-taken h) = h
+
 module _ (k : Progress) (file : List ℕ) (p : ℕ) where
-  settled-follows : (o : Opcode) (ks : Option (List Kind)) → k .part ≤ part o → Taking k (settled k file p o (command file p o) ks)
+  settled-follows : (o : Opcode) (ks : Option (List Kind)) → k .part ≤ part o → Taking k p (settled k file p o (command file p o) ks)
   unfolding settled
   settled-follows o None l = not-taken
   settled-follows o (Some ks) l =
@@ -62,9 +81,10 @@ module _ (k : Progress) (file : List ℕ) (p : ℕ) where
         order = le-leb (k .part) (part-of c) (subst (λ n. k .part ≤ n) (same-part file p o) l);
         part = same-part file p o;
         context = refl;
+        next = ap (λ n. p + 1 + n) (same-size file p o);
       }))))
 
-  begun-follows : (o : Option Opcode) → Taking k (begun k file p o)
+  begun-follows : (o : Option Opcode) → Taking k p (begun k file p o)
   unfolding begun checked
   begun-follows None = not-taken
   begun-follows (Some o) =
@@ -72,24 +92,22 @@ module _ (k : Progress) (file : List ℕ) (p : ℕ) where
       by-test (ltb (length file) (p + 1 + size o)) (λ _. not-taken) (λ _.
       by-test (allowed (k .context) (command file p o)) (λ _. settled-follows o _ (ltb-false _ _ e)) (λ _. not-taken)))
 
-  command-follows : Taking k (command-step k file p)
+  command-follows : Taking k p (command-step k file p)
   unfolding command-step
   command-follows = by-test (leb (length file) p) (λ _. not-taken) (λ _. begun-follows (opcode (byte file p)))
 
-  opened-follows : (o : Option ℕ) → Taking k (opened k file p o)
+  opened-follows : (o : Option ℕ) → Taking k p (opened k file p o)
   unfolding opened
   opened-follows (Some i) = not-taken
   opened-follows None = command-follows
 
-  step-follows : Taking k (step k file p)
+  step-taking : Taking k p (step k file p)
   unfolding step first-step
-  step-follows =
+  step-taking =
       by-test (eqb (k .part) 0) (λ _. by-test (ltb 65535 (length file)) (λ _. not-taken) (λ _. opened-follows (differs opening file 0))) (λ _. command-follows)
 
--- what is declared after some commands
-abbrev pub after : Context → List Command → Context
-after x [] = x
-after x (c ∷ cs) = after (declares c x) cs
+  pub step-follows : (c : Command) (k′ : Progress) (q : ℕ) → took c k′ q ≡ step k file p → Follows k p c k′ q
+  step-follows c k′ q e = taken-follows (subst (Taking k p) (sym e) step-taking)
 
 -- no command of a part before n, and none of an earlier part than the one before it
 abbrev pub parted : ℕ → List Command → Bool
@@ -107,7 +125,7 @@ stopped-orderly k n p = record {
   known = λ k′ (e : stopped n p ≡ ended k′). let z : _≡_ {A = ℕ} 0 1 = cc in absurd (omega arith);
 }
 
-module _ (k : Progress) (c : Command) (k′ : Progress) (f : Follows k c k′) where
+module _ (k : Progress) (p : ℕ) (c : Command) (k′ : Progress) (q : ℕ) (f : Follows k p c k′ q) where
   last-orderly : Orderly k (record { commands = c ∷ []; stop = ended k′ })
   last-orderly = record {
     parts = and-from _ _ (f .order) refl;
@@ -124,14 +142,14 @@ module _ (k : Progress) (c : Command) (k′ : Progress) (f : Follows k c k′) w
   taken-orderly true s h = last-orderly
   taken-orderly false s h = before-orderly s h
 
-goes-on-orderly : (k : Progress) (s : Step) (next : Progress → ℕ → Scan) → Taking k s → ((k′ : Progress) (q : ℕ) → Orderly k′ (next k′ q)) → Orderly k (goes-on s next)
-goes-on-orderly k (refused n p) next t h = stopped-orderly k n p
-goes-on-orderly k (took c k′ q) next (is-taken f) h = taken-orderly k c k′ f (is-end c) (next k′ q) (h k′ q)
+goes-on-orderly : (k : Progress) (p : ℕ) (s : Step) (next : Progress → ℕ → Scan) → Taking k p s → ((k′ : Progress) (q : ℕ) → Orderly k′ (next k′ q)) → Orderly k (goes-on s next)
+goes-on-orderly k p (refused n m) next t h = stopped-orderly k n m
+goes-on-orderly k p (took c k′ q) next (is-taken f) h = taken-orderly k p c k′ q f (is-end c) (next k′ q) (h k′ q)
 
 scan-orderly : (n : ℕ) (k : Progress) (file : List ℕ) (p : ℕ) → Orderly k (scan n k file p)
 unfolding scan
 scan-orderly zero k file p = stopped-orderly k 4 (length file)
-scan-orderly (suc n) k file p = goes-on-orderly k (step k file p) (λ k′ q. scan n k′ file q) (step-follows k file p) (λ k′ q. scan-orderly n k′ file q)
+scan-orderly (suc n) k file p = goes-on-orderly k p (step k file p) (λ k′ q. scan n k′ file q) (step-taking k file p) (λ k′ q. scan-orderly n k′ file q)
 
 pub file-orderly : (file : List ℕ) → Orderly unopened (scan-file file)
 unfolding scan-file

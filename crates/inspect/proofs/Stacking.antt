@@ -13,7 +13,8 @@ use Rattle.inspect.specs.declared.formula.Item as i
 use Rattle.inspect.specs.declared.formula.Item.the-variants as item-of-kind
 use Rattle.inspect.specs.declared.formula.Policy as q
 use Rattle.inspect.specs.Trees.{item, stack, policy, Builds}
-use Rattle.inspect.proofs.Parts.{part-of, after, parted, file-orderly}
+use Rattle.inspect.specs.Lines.{after}
+use Rattle.inspect.proofs.Parts.{part-of, parted, file-orderly}
 
 -- the stack after some commands, with all declarations made before
 abbrev pub stack-under : Context → List Command → List Item → List Item

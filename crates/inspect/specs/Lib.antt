@@ -1,4 +1,7 @@
 pub mod Plain
 pub mod Written
-pub mod Reports
+pub mod Names
 pub mod Trees
+pub mod Formulas
+pub mod Lines
+pub mod Reports

@@ -1,11 +1,17 @@
 // What operators, decisions, attributes and pairs are called.
+ghost use mathlib.Core.Path.{_≡_};
+ghost use Rattle.policy.specs.View as view;
+ghost use Rattle.inspect.specs.Names as names;
+ghost use Rattle.inspect.specs.Written.{Adds};
 use crate::text::Text;
 use policy::Decision;
 use policy::Reader;
 use std::alloc::AllocError;
 use std::alloc::Global;
 
-pub fn change(code: u8) -> &'static str {
+pub fn change(code: u8) -> &'static str
+    ensures { λ r. ⌜ now r ≡ names.change-name code ⌝ }
+{
     match code {
         0x00 => "not",
         0x01 => "E1",
@@ -13,7 +19,9 @@ pub fn change(code: u8) -> &'static str {
     }
 }
 
-pub fn operator(code: u8) -> &'static str {
+pub fn operator(code: u8) -> &'static str
+    ensures { λ r. ⌜ now r ≡ names.operator-name code ⌝ }
+{
     match code {
         0x10 => "and",
         0x11 => "weak-and",
@@ -32,7 +40,9 @@ pub fn operator(code: u8) -> &'static str {
     }
 }
 
-pub fn constant(decision: Decision) -> &'static str {
+pub fn constant(decision: Decision) -> &'static str
+    ensures { λ r. ⌜ now r ≡ names.constant-name decision ⌝ }
+{
     match decision {
         Decision::Deny => "deny",
         Decision::Allow => "allow",
@@ -41,15 +51,19 @@ pub fn constant(decision: Decision) -> &'static str {
 }
 
 // The name of an attribute, without the 00 bytes that fill it up.
-pub fn attribute(text: &mut Text, reader: &Reader, number: u8) -> Result<(), AllocError> {
+pub fn attribute(text: &mut Text, reader: &Reader, number: u8) -> Result<(), AllocError>
+    ensures { λ r. ⌜ Adds r (now (text .entry)) (now (text .exit)) (names.attribute-text (view.context (now (reader .entry))) number) ⌝ }
+{
     match reader.attribute(number) {
         Some(attribute) => text.bytes(attribute.name),
         None => Ok(()),
     }
 }
 
-// An attribute's name and the number of a value within it.
-pub fn pair(heap: Global, text: &mut Text, reader: &Reader, number: u8) -> Result<(), AllocError> {
+// The name of an attribute, and the number of a value within it. No pair is below the start of its attribute.
+pub fn pair(heap: Global, text: &mut Text, reader: &Reader, number: u8) -> Result<(), AllocError>
+    ensures { λ r. ⌜ Adds r (now (text .entry)) (now (text .exit)) (names.pair-text (view.context (now (reader .entry))) number) ⌝ }
+{
     let Some(attribute) = reader.attribute_with(number) else {
         return Ok(());
     };

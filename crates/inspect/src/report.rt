@@ -1,13 +1,11 @@
 // What is printed of a file.
 ghost use mathlib.Core.Bool.{true};
-ghost use mathlib.Core.List.{List, _∷_, _++_};
 ghost use mathlib.Core.Path.{_≡_};
-ghost use Prim.Native.Nat.{ℕ};
 ghost use Rattle.std.specs.Vec.{made};
 ghost use Rattle.policy.specs.Reading.{reads};
 ghost use Rattle.policy.specs.Refusals as refusals;
 ghost use Rattle.inspect.specs.Plain.{all-plain};
-ghost use Rattle.inspect.specs.Reports.{refusal-line, pairs-line, Reports};
+ghost use Rattle.inspect.specs.Reports.{refusal-line, Accounts, Reports};
 ghost use Rattle.inspect.specs.Written.{written};
 use crate::failure::Failure;
 use crate::failure::FailureFromAlloc;
@@ -15,8 +13,8 @@ use crate::formula::formula;
 use crate::lines::lines;
 use crate::show;
 use crate::text::Text;
-use policy::Commands;
 use policy::ReadFault;
+use policy::Reader;
 use policy::check;
 use std::alloc::AllocError;
 use std::alloc::Global;
@@ -36,14 +34,14 @@ fn refusal(heap: Global, fault: ReadFault) -> Result<Text, AllocError>
 
 // The commands, the formula and the number of pairs of a file that reads well.
 fn account(heap: Global, file: &[u8], pairs: u8) -> Result<Text, Failure>
-    ensures { λ r. ⌜ made r (λ t. (lines : List ℕ) × (written t ≡ lines ++ (10 ∷ pairs-line pairs))) ⌝ }
+    ensures { λ r. ⌜ made r (λ t. Accounts (written t) (now (file .entry)) pairs (reads (now (file .entry)))) ⌝ }
 {
     let mut text = Text::new(heap);
-    let mut commands = Commands::of(file);
-    lines(heap, &mut text, &mut commands)?;
+    let mut reader = Reader::new(file);
+    lines(heap, &mut text, &mut reader)?;
     let policy = formula(heap, file)?;
     text.add("formula: ")?;
-    show::policy(heap, &mut text, commands.reader(), &policy)?;
+    show::policy(heap, &mut text, &reader, &policy)?;
     text.add("\npairs ")?;
     text.number(heap, pairs as usize)?;
     text.add("\n")?;
@@ -52,7 +50,7 @@ fn account(heap: Global, file: &[u8], pairs: u8) -> Result<Text, Failure>
 
 // All that is printed of a file.
 pub fn report(heap: Global, file: &[u8]) -> Result<Text, Failure>
-    ensures exact { λ r. ⌜ made r (λ t. Reports (written t) (reads (now (file .entry)))) ⌝ }
+    ensures exact { λ r. ⌜ made r (λ t. Reports (written t) (now (file .entry)) (reads (now (file .entry)))) ⌝ }
     ensures plain { λ r. ⌜ made r (λ t. all-plain (written t) ≡ true) ⌝ }
 {
     match check(file) {

@@ -1,4 +1,7 @@
 // The formula of a policy with infix operators.
+ghost use Rattle.policy.specs.View as view;
+ghost use Rattle.inspect.specs.Formulas.{target-text, policy-text};
+ghost use Rattle.inspect.specs.Written.{Adds};
 use crate::formula::Policy;
 use crate::formula::Target;
 use crate::names::change;
@@ -10,12 +13,9 @@ use policy::Reader;
 use std::alloc::AllocError;
 use std::alloc::Global;
 
-fn target(
-    heap: Global,
-    text: &mut Text,
-    reader: &Reader,
-    shown: &Target,
-) -> Result<(), AllocError> {
+fn target(heap: Global, text: &mut Text, reader: &Reader, shown: &Target) -> Result<(), AllocError>
+    ensures { λ r. ⌜ Adds r (now (text .entry)) (now (text .exit)) (target-text (view.context (now (reader .entry))) (now (shown .entry))) ⌝ }
+{
     match shown {
         Target::Pair(number) => pair(heap, text, reader, *number),
         Target::Change(code, inner) => {
@@ -40,7 +40,9 @@ pub fn policy(
     text: &mut Text,
     reader: &Reader,
     shown: &Policy,
-) -> Result<(), AllocError> {
+) -> Result<(), AllocError>
+    ensures { λ r. ⌜ Adds r (now (text .entry)) (now (text .exit)) (policy-text (view.context (now (reader .entry))) (now (shown .entry))) ⌝ }
+{
     match shown {
         Policy::Always(decision) => text.add(constant(*decision)),
         Policy::Change(code, inner) => {

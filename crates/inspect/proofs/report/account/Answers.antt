@@ -1,10 +1,20 @@
-use mathlib.Core.List.{_∷_, [], _++_}
+use mathlib.Core.List.{List, [], _∷_, _++_}
+use mathlib.Core.Path.{_≡_, sym, ap, _∙_}
+use Rattle.policy.specs.View.{context}
 use Rattle.inspect.specs.Plain.{kept}
-use Rattle.inspect.specs.Written.{written}
-use Rattle.inspect.proofs.Joins.{then}
+use Rattle.inspect.proofs.Joins.{then, whole, named}
+use Rattle.inspect.proofs.Reporting.{new-lines, new-known, accounted}
 use Rattle.inspect.proofs.report.account.Needs as need
 
 pub returns : need.returns
 unfolding kept
 returns c =
-    (written (c .policy .last .text), then (c .in-Continue-add-2 .ensures tt) (then (c .in-Continue-number .ensures tt) (c .in-Continue-add-3 .ensures tt)) .is)
+    let file = c .args .file .now in
+    let n = c .new-reader .ensures in
+    let first = c .new-reader .result in
+    let listed = c .in-Continue-lines .ensures tt in
+    let lines = named (new-lines first file (n .progress) (n .bytes) (n .place)) (listed .text) in
+    let known = listed .known ∙ new-known first file (n .progress) (n .bytes) (n .place) in
+    let last = then (c .in-Continue-add-2 .ensures tt) (then (c .in-Continue-number .ensures tt) (c .in-Continue-add-3 .ensures tt)) in
+    let text = whole (c .new-text .ensures) (then lines (then (c .in-Continue-add .ensures tt) (then (c .in-Continue-policy-2 .ensures tt) last))) in
+    accounted file _ (c .args .pairs) (c .in-Continue-policy .policy) (context (c .lines .last .reader)) known (c .in-Continue-policy .ensures tt) text
