@@ -1,8 +1,8 @@
 -- What was declared, held in arrays by its places in the file.
-use mathlib.Core.Path.{_≡_, refl, sym, ap, subst, _∙_}
-use mathlib.Core.Bool.{Bool, true, false, cond, not, _&&_}
+use mathlib.Core.Path.{_≡_, sym, ap, subst, _∙_}
+use mathlib.Core.Bool.{Bool, true, false, not, _&&_}
 use mathlib.Core.List.{List, [], _∷_, _++_, map}
-use mathlib.Core.Logic.{_≢_, inl, inr, ⊎-elim}
+use mathlib.Core.Logic.{_≢_, ⊎-elim}
 use Prim.Native.Nat.{ℕ, _+_, _-_, _<_, _≤_}
 use native.Mathlib.Omega.{arith}
 use lib.Dec.{leb, ltb}
@@ -11,11 +11,10 @@ use Rattle.std.specs.shelf.Text.{sameBytes}
 use Rattle.std.proofs.shelf.Lists.{length-map, length-take, length-take-le, getD-map, getD-take, at-drop-more, at-drop-all, take-more-set, map-push, getD-set-same, getD-set-other}
 use Rattle.std.proofs.shelf.Tests.{lt-ltb, le-ltb, and-left, cases-lt}
 use Rattle.policy.specs.declared.reader.Declaration.{Declaration}
-use Rattle.policy.specs.Values.{Digits}
 use Rattle.policy.specs.Policies.{Attribute}
-use Rattle.policy.specs.Commands.{nobody, fresh, bytes-from, are-digits}
-use Rattle.policy.specs.Placed.{nothing, Names-within, Operators-within, Operators-digits}
-use Rattle.policy.specs.View.{declared-attribute, own-digits}
+use Rattle.policy.specs.Commands.{nobody, fresh, bytes-from}
+use Rattle.policy.specs.Placed.{nothing}
+use Rattle.policy.specs.View.{declared-attribute}
 
 -- a part of the file, as a slice of it is written
 pub cut : (file : List ℕ) (from to size : ℕ) → to - from ≡ size → take (to - from) (drop from file) ≡ bytes-from file from size

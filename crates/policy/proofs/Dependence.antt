@@ -1,11 +1,10 @@
 -- What a file looks at: its own pairs, and nothing else.
-use mathlib.Core.Path.{_≡_, refl, sym, ap, _∙_}
+use mathlib.Core.Path.{_≡_, refl, ap, _∙_}
 use mathlib.Core.Bool.{Bool, true, false, cond, not, _&&_}
 use mathlib.Core.List.{List, [], _∷_}
-use Prim.Native.Nat.{ℕ, zero, suc, _+_, _*_, _<_, _≤_}
+use Prim.Native.Nat.{ℕ, zero, suc, _+_, _<_, _≤_}
 use native.Mathlib.Omega.{arith}
 use lib.Dec.{eqb, leb, lit<}
-use lib.ListN.{length, getD}
 use Rattle.policy.specs.declared.decision.Decision.{Decision}
 use Rattle.policy.specs.declared.decision.Decision.the-variants.{Deny, Allow, NotApplicable}
 use Rattle.policy.specs.Values.{Digits, number, change, apply}

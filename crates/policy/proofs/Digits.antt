@@ -1,13 +1,13 @@
 -- Digits of operators.
 use mathlib.Core.Path.{_≡_, refl}
-use mathlib.Core.Bool.{Bool, true, false, _&&_}
+use mathlib.Core.Bool.{Bool, true, _&&_}
 use mathlib.Core.List.{List, [], _∷_, _++_}
 use Prim.Native.Nat.{ℕ, zero, suc, _+_, _<_, _≤_}
 use native.Mathlib.Omega.{arith}
-use lib.Dec.{leb, lit<}
+use lib.Dec.{lit<}
 use lib.ListN.{getD}
 use Rattle.std.proofs.shelf.Tests.{and-parts, and-from, leb-true}
-use Rattle.policy.specs.Values.{Digits, standard, one-operand, change, apply, digits-of}
+use Rattle.policy.specs.Values.{Digits, standard, one-operand, change, apply}
 use Rattle.policy.specs.Commands.{are-digits}
 
 -- does each operator of a table pass the test?

@@ -1,11 +1,11 @@
 -- Trying every query: some query that contains q passes a test just where the enumeration finds one.
 use mathlib.Core.Path.{_≡_, refl, sym, ap, _∙_}
 use mathlib.Core.Bool.{Bool, true, false, cond, _||_}
-use mathlib.Core.Logic.{inl, inr, ⊎-elim}
+use mathlib.Core.Logic.{⊎-elim}
 use Prim.Native.Nat.{ℕ, zero, suc, _<_, _≤_}
 use native.Mathlib.Omega.{arith}
 use lib.Dec.{eqb, ltb}
-use Rattle.std.proofs.shelf.Tests.{cond-true, cond-false, cases-bool, cases-lt, lt-ltb, le-ltb, eq-eqb, ne-eqb, or-parts, true≢false, false≢true}
+use Rattle.std.proofs.shelf.Tests.{cond-true, cond-false, cases-bool, cases-lt, lt-ltb, le-ltb, eq-eqb, ne-eqb, true≢false}
 use Rattle.policy.specs.Queries.{Query, Contained, Agree, adding, some-query}
 
 -- a query that has all of q and passes the test

@@ -1,13 +1,12 @@
 -- The file that commands stand for: its declarations hang together, and its stack ends with one policy.
-use mathlib.Core.Path.{_≡_, refl, sym, ap, subst, _∙_}
-use mathlib.Core.Bool.{Bool, true, false, cond, not, _&&_, _||_}
+use mathlib.Core.Path.{_≡_, refl, sym, ap, subst}
+use mathlib.Core.Bool.{Bool, true, false, cond}
 use mathlib.Core.List.{List, [], _∷_, _++_}
-use mathlib.Core.Logic.{inl, inr, ⊎-elim}
 use Prim.Native.Nat.{ℕ, zero, suc, _+_, _-_, _<_, _≤_}
 use native.Mathlib.Omega.{arith}
-use lib.Dec.{eqb, leb, ltb}
-use lib.ListN.{length, getD}
-use Rattle.std.proofs.shelf.Tests.{cond-true, cond-false, cases-bool, cases-lt, and-parts, ltb-true, ltb-false, false≢true}
+use lib.Dec.{leb, ltb}
+use lib.ListN.{getD}
+use Rattle.std.proofs.shelf.Tests.{and-parts, ltb-true, ltb-false, false≢true}
 use Rattle.std.specs.declared.option.Option.{Option}
 use Rattle.std.specs.declared.option.Option.the-variants.{Some, None}
 use Rattle.std.specs.Options.{valueOr}
@@ -15,8 +14,8 @@ use Rattle.policy.specs.declared.kind.Kind.{Kind}
 use Rattle.policy.specs.declared.kind.Kind.the-variants as kind
 use Rattle.policy.specs.Values.{Digits, standard, digits-of}
 use Rattle.policy.specs.Policies.{Attribute, Target, Policy, Constraint}
-use Rattle.policy.specs.Commands.{Command, attribute, operator, restrict, act, Restriction, exclusion, most, least, Action, push-pair, push, change, combine, guard, end, Context, allowed, acts, restricts, turns, one-item, two-alike, guarding, kinds-after, is-end, one-policy, declares, nobody, are-digits, is-name, fresh}
-use Rattle.policy.specs.Reading.{Progress, Step, refused, took, step, Scan, Stop, stopped, ended, before, goes-on, scan, constraint, constrains, constraints-of, Item, as-target, as-policy, attribute-with, changes, combines, guards, does, puts, stack-of}
+use Rattle.policy.specs.Commands.{Command, attribute, operator, restrict, act, Restriction, exclusion, most, least, Action, push-pair, push, change, combine, guard, end, Context, allowed, acts, restricts, turns, one-item, two-alike, guarding, kinds-after, is-end, one-policy, declares, nobody, are-digits}
+use Rattle.policy.specs.Reading.{Progress, Step, refused, took, step, ended, before, goes-on, scan, constraint, constrains, constraints-of, Item, as-target, as-policy, attribute-with, changes, combines, guards, does, puts, stack-of}
 use Rattle.policy.specs.Laws.{Has}
 use Rattle.policy.proofs.Scans.{Takes, step-takes}
 use Rattle.policy.proofs.Digits.{each, each-at, each-push, standard-digits}

@@ -1,8 +1,7 @@
 -- Every file that reads well keeps the laws.
 use mathlib.Core.Path.{_≡_, refl, sym, ap, subst, _∙_}
-use mathlib.Core.Bool.{Bool, true, false, cond, _&&_}
+use mathlib.Core.Bool.{true, false, cond, _&&_}
 use mathlib.Core.List.{List, [], _∷_}
-use mathlib.Core.Logic.{_↔_}
 use Prim.Native.Nat.{ℕ, zero, suc, _+_, _<_, _≤_}
 use native.Mathlib.Omega.{arith}
 use lib.Dec.{eqb}
@@ -10,15 +9,15 @@ use lib.ListN.{length}
 use Rattle.std.proofs.shelf.Tests.{cond-true, cond-false, and-parts, and-from, eq-eqb, eqb-true}
 use Rattle.policy.specs.declared.decision.Decision.{Decision}
 use Rattle.policy.specs.Values.{number, change}
-use Rattle.policy.specs.Queries.{Query, Contained, Agree, some-query}
-use Rattle.policy.specs.Policies.{Attribute, pair, altered, Policy, File, present-from, value, valid, decision}
+use Rattle.policy.specs.Queries.{Query, Agree}
+use Rattle.policy.specs.Policies.{Attribute, pair, altered, File, present-from, value, valid, decision}
 use Rattle.policy.specs.Extended.{Extended, valid-with, is-listed}
-use Rattle.policy.specs.Reading.{Progress, Stop, stopped, ended, scan, scan-file, unopened, reads, read-as, file-of, well, fault, commands-of, stack-of, as-policy, top, constraints-of}
+use Rattle.policy.specs.Reading.{Progress, Stop, stopped, ended, scan-file, unopened, reads, read-as, file-of, well, commands-of, stack-of, as-policy, top}
 use Rattle.policy.specs.Laws.{Has, Missing, Lawful, One-policy, Lawfully-read}
 use Rattle.policy.proofs.Digits.{each}
 use Rattle.policy.proofs.Dependence.{Policy-over, All-over, decides-same, meets-all-same, decides-three, named}
 use Rattle.policy.proofs.Enumeration.{finds, tried, below-of, below-agrees, just-below}
-use Rattle.policy.proofs.Files.{Reads-to, scan-reads-to, ends-with-one, none, Sound, empty, Built, builds, Single, single}
+use Rattle.policy.proofs.Files.{Reads-to, scan-reads-to, ends-with-one, none, empty, Built, builds, Single, single}
 
 -- ---- a missing attribute
 

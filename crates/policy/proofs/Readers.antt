@@ -2,8 +2,7 @@
 use mathlib.Core.Path.{_≡_, refl, sym, ap, subst, _∙_}
 use mathlib.Core.Bool.{Bool, true, false, cond}
 use mathlib.Core.List.{List, [], _∷_}
-use Prim.Native.Nat.{ℕ, suc, _+_, _<_, _≤_}
-use native.Mathlib.Omega.{arith}
+use Prim.Native.Nat.{ℕ, suc, _<_, _≤_}
 use lib.ListN.{length}
 use Rattle.std.proofs.shelf.Tests.{cond-true, cond-false}
 use Rattle.std.specs.declared.result.Result.the-variants.{Ok, Err}
@@ -11,7 +10,7 @@ use Rattle.policy.specs.declared.command.Command.{Command}
 use Rattle.policy.specs.declared.fault.ReadFault.{ReadFault}
 use Rattle.policy.specs.declared.reader.Reader.{Reader}
 use Rattle.policy.specs.Commands.{is-end}
-use Rattle.policy.specs.Reading.{Scan, Stop, stopped, ended, before, scan, scan-file, unopened, reads, read-as, step}
+use Rattle.policy.specs.Reading.{Stop, stopped, ended, before, scan, scan-file, unopened, reads, read-as}
 use Rattle.policy.specs.Refusals as refusals
 use Rattle.policy.specs.View.{command, progress, bytes, place, told, next-step, ahead, Answers}
 use Rattle.policy.proofs.Scans.{step-takes, moves-on, ahead-refused, ahead-taken}

@@ -2,12 +2,11 @@
 use mathlib.Core.Path.{_≡_, refl, sym, ap, subst, _∙_}
 use mathlib.Core.Bool.{Bool, true, false, cond, not, _&&_}
 use mathlib.Core.List.{List, [], _∷_}
-use mathlib.Core.Logic.{inl, inr, ⊎-elim}
-use Prim.Native.Nat.{ℕ, zero, suc, _+_, _-_, _<_, _≤_}
+use Prim.Native.Nat.{ℕ, zero, suc, _+_, _<_, _≤_}
 use native.Mathlib.Omega.{arith}
 use lib.Dec.{eqb, leb, ltb, lit<}
 use lib.ListN.{length}
-use Rattle.std.proofs.shelf.Tests.{cond-true, cond-false, cases-bool, ltb-false, and-parts, not-false, false≢true}
+use Rattle.std.proofs.shelf.Tests.{ltb-false, not-false}
 use Rattle.std.specs.declared.option.Option.{Option}
 use Rattle.std.specs.declared.option.Option.the-variants.{Some, None}
 use Rattle.policy.specs.declared.opcode.Opcode.{Opcode}
@@ -15,7 +14,7 @@ use Rattle.policy.specs.declared.opcode.Opcode.the-variants.{Attribute, Operat
 use Rattle.policy.specs.declared.kind.Kind.{Kind}
 use Rattle.policy.proofs.Steps.{step-later, command-past}
 use Rattle.policy.specs.Commands.{Command, opcode, part, size, byte, command, allowed, kinds-after, is-end, one-policy, declares}
-use Rattle.policy.specs.Reading.{Progress, Step, refused, took, step, first-step, opened, command-step, begun, checked, settled, differs, opening, Scan, Stop, stopped, ended, before, goes-on, scan, scan-file, unopened}
+use Rattle.policy.specs.Reading.{Progress, Step, refused, took, step, first-step, opened, command-step, begun, checked, settled, differs, opening, Scan, stopped, ended, before, goes-on, scan}
 
 -- ---- what is known of a command that was taken
 

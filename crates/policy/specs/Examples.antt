@@ -1,12 +1,11 @@
 -- The nationality file, damaged copies of it, and what the definitions say of them: computed, not assumed.
 use mathlib.Core.Path.{_≡_}
-use mathlib.Core.Bool.{Bool, true, false}
+use mathlib.Core.Bool.{true, false}
 use mathlib.Core.List.{List, [], _∷_, _++_, map}
 use Prim.Native.Nat.{ℕ}
 use lib.ListN.{take, set}
 use Rattle.policy.specs.declared.decision.Decision.the-variants.{Deny, Allow, NotApplicable}
-use Rattle.policy.specs.Values.{standard}
-use Rattle.policy.specs.Queries.{none, numbered}
+use Rattle.policy.specs.Queries.{numbered}
 use Rattle.policy.specs.Policies.{Attribute, pair, altered, Policy, always, combined, guarded, at-most, File, decision, valid}
 use Rattle.policy.specs.Extended.{answer-code}
 use Rattle.policy.specs.Power.{swings, whole}

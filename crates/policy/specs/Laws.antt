@@ -1,5 +1,5 @@
 -- Laws of every file that reads well.
-use mathlib.Core.Bool.{Bool, true, false}
+use mathlib.Core.Bool.{true, false}
 use mathlib.Core.List.{List, [], _∷_}
 use mathlib.Core.Logic.{_↔_}
 use mathlib.Core.Path.{_≡_}
@@ -7,9 +7,9 @@ use Prim.Native.Nat.{ℕ, _+_, _<_, _≤_}
 use Rattle.policy.specs.declared.decision.Decision.{Decision}
 use Rattle.policy.specs.Values.{number}
 use Rattle.policy.specs.Queries.{Query, Contained, Agree}
-use Rattle.policy.specs.Policies.{Attribute, pair, altered, Policy, File, value, valid, decision}
+use Rattle.policy.specs.Policies.{Attribute, pair, altered, File, value, valid, decision}
 use Rattle.policy.specs.Extended.{Extended, is-listed}
-use Rattle.policy.specs.Reading.{Reading, well, reads, unopened, commands-of, stack-of, as-policy}
+use Rattle.policy.specs.Reading.{well, reads, unopened, commands-of, stack-of, as-policy}
 
 -- a pair of the attribute
 pub record Has (a : Attribute) (i : ℕ) : Type 0 where

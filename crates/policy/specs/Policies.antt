@@ -2,7 +2,7 @@
 --
 -- A file is a value of the type File. How it is written as bytes plays no part here.
 use mathlib.Core.List.{List, [], _∷_}
-use mathlib.Core.Bool.{Bool, true, false, cond, not, _&&_}
+use mathlib.Core.Bool.{Bool, true, cond, not, _&&_}
 use Prim.Native.Nat.{ℕ, zero, suc, _+_}
 use lib.Dec.{eqb, leb}
 use Rattle.policy.specs.declared.decision.Decision.{Decision}

@@ -2,8 +2,8 @@
 --
 -- A file is read command by command. `step` has all checks of a command in their order; `scan` goes on to the end or
 -- to the first refusal; `reads` makes a File of the commands.
-use mathlib.Core.Bool.{Bool, true, false, cond, _&&_, not}
-use mathlib.Core.List.{List, [], _∷_, _++_}
+use mathlib.Core.Bool.{cond, _&&_, not}
+use mathlib.Core.List.{List, [], _∷_}
 use Prim.Native.Nat.{ℕ, zero, suc, _+_}
 use lib.Dec.{eqb, leb, ltb}
 use lib.ListN.{length, getD}

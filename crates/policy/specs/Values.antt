@@ -3,7 +3,7 @@
 -- A target or a policy has one of three values. Of a target, 0 is no match, 1 is match and 2 is indeterminate.
 -- Of a policy, 0 is deny, 1 is allow and 2 is not applicable. Bytes are written in hexadecimal.
 use mathlib.Core.List.{List, [], _∷_}
-use mathlib.Core.Bool.{Bool, true, false, cond, _&&_, _||_}
+use mathlib.Core.Bool.{Bool, cond, _&&_}
 use Prim.Native.Nat.{ℕ, _+_, _-_, _*_}
 use lib.Dec.{leb, ltb}
 use lib.ListN.{length, getD}

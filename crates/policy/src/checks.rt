@@ -18,9 +18,10 @@ pub(crate) fn wrong_opening(file: &[u8]) -> Option<usize>
     None
 }
 
-// The bytes that a name may have before its 00.
+// The first byte that a name may have before its 00.
 const FIRST_PRINTABLE: u8 = 0x21;
 
+// The last one.
 const LAST_PRINTABLE: u8 = 0x7e;
 
 // Whether these are printable bytes, at least one, and then 00.

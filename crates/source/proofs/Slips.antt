@@ -1,16 +1,15 @@
 -- Slips: the walk over their entries, and bytes for every meaning.
-use mathlib.Core.Path.{_≡_, refl, sym, ap, subst, _∙_}
-use mathlib.Core.Bool.{Bool, true, false, cond, _&&_}
+use mathlib.Core.Path.{_≡_, refl, sym, ap, _∙_}
+use mathlib.Core.Bool.{cond, _&&_}
 use mathlib.Core.List.{List, [], _∷_}
-use mathlib.Core.Logic.{inl, inr, ⊎-elim}
-use Prim.Native.Nat.{ℕ, zero, suc, _+_, _*_, _/_, _%_, _<_, _≤_}
+use mathlib.Core.Logic.{⊎-elim}
+use Prim.Native.Nat.{ℕ, zero, suc, _+_, _*_, _<_, _≤_}
 use native.Mathlib.Nat.{mod-eq-of-lt}
 use native.Mathlib.Omega.{arith}
 use lib.Dec.{eqb, ltb, lit<}
 use lib.ListN.{length, getD, drop}
-use Rattle.std.proofs.shelf.Bits.{mod-below}
-use Rattle.std.proofs.shelf.Lists.{drop-more, drop-all, length-drop}
-use Rattle.std.proofs.shelf.Tests.{cond-true, cond-false, cases-bool, cases-lt, cases-eq, eq-eqb, ne-eqb, lt-ltb, le-ltb, ltb-true, and-left, and-right, and-from}
+use Rattle.std.proofs.shelf.Lists.{drop-more, length-drop}
+use Rattle.std.proofs.shelf.Tests.{cond-true, cond-false, cases-lt, cases-eq, eq-eqb, ne-eqb, lt-ltb, le-ltb, and-left, and-from}
 use Rattle.std.specs.declared.option.Option.{Option}
 use Rattle.std.specs.declared.option.Option.the-variants.{Some, None}
 use Rattle.source.specs.Meanings.{Meaning, labelled}

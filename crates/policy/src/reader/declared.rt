@@ -16,9 +16,10 @@ use crate::Row;
 use crate::checks::are_digits;
 use crate::checks::is_name;
 
-// How many pairs and own operators a file may have.
+// How many pairs a file may have.
 const MOST_PAIRS: u8 = 48;
 
+// How many own operators a file may have.
 const MOST_OPERATORS: usize = 8;
 
 impl<'f> Reader<'f> {

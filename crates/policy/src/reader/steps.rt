@@ -1,13 +1,12 @@
 // One command at a time.
 ghost use mathlib.Core.Bool.{true};
 ghost use mathlib.Core.Path.{_≡_};
-ghost use Prim.Native.Nat.{ℕ, _+_, _<_, _≤_};
+ghost use Prim.Native.Nat.{_+_, _<_, _≤_};
 ghost use lib.ListN.{length};
-ghost use Rattle.std.specs.Results.{Cases};
 ghost use Rattle.policy.specs.declared.opcode.Opcode.the-variants as opcode;
 ghost use Rattle.policy.specs.Commands as commands;
-ghost use Rattle.policy.specs.Reading.{Progress, unopened, step, command-step, checked};
-ghost use Rattle.policy.specs.View.{command, progress, context, bytes, stack, told, Opens, Begins, Room, Settled, Settles, Declares, Unless-taken, next-step};
+ghost use Rattle.policy.specs.Reading.{unopened};
+ghost use Rattle.policy.specs.View.{command, progress, context, bytes, told, Opens, Begins, Room, Settled, Settles, Declares, Unless-taken, next-step};
 ghost use Rattle.policy.specs.View as view;
 use super::Declaration;
 use super::Reader;
@@ -18,9 +17,10 @@ use crate::checks::wrong_opening;
 use crate::kinds::Kinds;
 use crate::opcode::Opcode;
 
-// How long a file may be, and how many items may stand on the stack.
+// How long a file may be.
 const MOST_BYTES: usize = 65_535;
 
+// How many items may stand on the stack.
 const MOST_ITEMS: usize = 16;
 
 impl<'f> Reader<'f> {

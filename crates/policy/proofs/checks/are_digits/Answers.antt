@@ -1,5 +1,4 @@
 use mathlib.Core.Path.{sym, _∙_}
-use native.Mathlib.Omega.{arith}
 use Rattle.policy.proofs.Spelling.{digits-more, digits-not, digits-all}
 use Rattle.policy.proofs.checks.are_digits.Needs as need
 

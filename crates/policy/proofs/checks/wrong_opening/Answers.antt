@@ -1,5 +1,4 @@
 use mathlib.Core.Path.{sym, _∙_}
-use native.Mathlib.Omega.{arith}
 use Rattle.policy.specs.Reading.{opening}
 use Rattle.policy.proofs.Spelling.{opening-more, opening-wrong, opening-short, opening-all}
 use Rattle.policy.proofs.checks.wrong_opening.Needs as need

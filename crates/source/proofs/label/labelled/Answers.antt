@@ -1,4 +1,4 @@
-use mathlib.Core.Path.{_≡_, sym, ap}
+use mathlib.Core.Path.{sym, ap}
 use native.Mathlib.Nat.{mod-eq-of-lt}
 use Rattle.std.specs.declared.option.Option.the-variants.{Some}
 use Rattle.source.proofs.label.labelled.Needs as need

@@ -1,10 +1,10 @@
-use mathlib.Core.Path.{_≡_, refl, sym, ap, _∙_}
+use mathlib.Core.Path.{refl}
 use Prim.Native.Nat.{_+_, _≤_}
 use native.Mathlib.Omega.{arith}
 use lib.ListN.{length}
 use Rattle.policy.specs.declared.reader.Declaration.{Declaration}
 use Rattle.policy.specs.Placed.{nothing}
-use Rattle.policy.specs.View.{context, declared-attribute, own-digits}
+use Rattle.policy.specs.View.{context, declared-attribute}
 use Rattle.policy.proofs.Declared.{first-more, each-more}
 use Rattle.policy.proofs.reader.Reader.declare_attribute.Needs as need
 

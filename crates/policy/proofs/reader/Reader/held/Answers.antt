@@ -1,8 +1,7 @@
 use mathlib.Core.Path.{_≡_, sym, ap, _∙_}
-use Prim.Native.Nat.{ℕ, _+_, _-_}
+use Prim.Native.Nat.{_+_, _-_}
 use native.Mathlib.Omega.{arith}
 use lib.ListN.{getD}
-use Rattle.policy.specs.Policies.{Attribute}
 use Rattle.policy.specs.Commands.{nobody}
 use Rattle.policy.specs.Placed.{nothing}
 use Rattle.policy.specs.View.{declared-attribute}

@@ -1,12 +1,12 @@
-use mathlib.Core.Path.{_≡_, refl, sym, ap, _∙_}
+use mathlib.Core.Path.{_≡_, refl, _∙_}
 use mathlib.Core.Bool.{Bool, true, false, cond, _&&_}
 use Prim.Native.Nat.{ℕ}
 use native.Mathlib.Omega.{arith}
 use lib.Dec.{ltb}
 use Rattle.std.specs.Options.{isSome}
 use Rattle.std.specs.declared.option.Option.{Option}
-use Rattle.std.specs.declared.option.Option.the-variants.{Some, None}
-use Rattle.source.specs.Meanings.{tells, labelled}
+use Rattle.std.specs.declared.option.Option.the-variants.{None}
+use Rattle.source.specs.Meanings.{labelled}
 use Rattle.source.specs.Sets.{has}
 use Rattle.source.specs.Card.{card}
 use Rattle.source.proofs.card.CardSource.label.Needs as need
