@@ -1,7 +1,7 @@
 -- From line to line.
 use mathlib.Core.Bool.{Bool, true, false, cond}
 use mathlib.Core.List.{List, [], _∷_, _++_, append-assoc, append-nil}
-use mathlib.Core.Path.{_≡_, refl, sym, ap, subst, _∙_}
+use mathlib.Core.Path.{_≡_, refl, sym, ap, _∙_}
 use Prim.Native.Nat.{ℕ, _+_, _<_, _≤_}
 use native.Mathlib.Omega.{arith}
 use lib.ListN.{length, getD, take}
@@ -16,7 +16,7 @@ use Rattle.policy.specs.View.{command, context, bytes, place, progress, told, n
 use Rattle.policy.proofs.Readers.{ahead-of-refused, first-ahead}
 use Rattle.inspect.specs.declared.text.Text.{Text}
 use Rattle.inspect.specs.Lines.{after, size-of, line-text, lines-text, digits-text, Listed}
-use Rattle.inspect.specs.Written.{written, Added}
+use Rattle.inspect.specs.Written.{Added}
 use Rattle.inspect.proofs.Joins.{nothing, then, named}
 use Rattle.inspect.proofs.Parts.{Follows, step-follows}
 

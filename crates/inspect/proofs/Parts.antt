@@ -12,9 +12,9 @@ use Rattle.std.specs.declared.option.Option.the-variants.{Some, None}
 use Rattle.policy.specs.declared.kind.Kind.{Kind}
 use Rattle.policy.specs.declared.opcode.Opcode.{Opcode}
 use Rattle.policy.specs.declared.opcode.Opcode.the-variants.{Attribute, Operator, Exclusion, AtMost, AtLeast, Pair, Allow, Deny, Change, Combine, Guard, End}
-use Rattle.policy.specs.Commands.{Command, attribute, operator, restrict, act, Context, opcode, part, size, byte, command, declares, allowed, kinds-after, is-end, one-policy}
+use Rattle.policy.specs.Commands.{Command, attribute, operator, restrict, act, opcode, part, size, byte, command, declares, allowed, is-end, one-policy}
 use Rattle.inspect.specs.Lines.{after, size-of}
-use Rattle.policy.specs.Reading.{Progress, Step, refused, took, step, first-step, opened, command-step, begun, checked, settled, differs, opening, Scan, Stop, stopped, ended, before, goes-on, scan, scan-file, unopened}
+use Rattle.policy.specs.Reading.{Progress, Step, refused, took, step, first-step, opened, command-step, begun, checked, settled, differs, opening, Scan, stopped, ended, before, goes-on, scan, scan-file, unopened}
 
 -- the part of the file that a command belongs to
 abbrev pub part-of : Command → ℕ

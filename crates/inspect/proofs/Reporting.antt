@@ -1,5 +1,5 @@
 -- The parts of a report.
-use mathlib.Core.List.{List, [], _∷_, _++_}
+use mathlib.Core.List.{List, _∷_, _++_}
 use mathlib.Core.Path.{_≡_, refl, sym, ap, _∙_}
 use Prim.Native.Nat.{ℕ}
 use native.Mathlib.Omega.{arith}
@@ -14,7 +14,7 @@ use Rattle.policy.proofs.Readers.{ahead-of-new}
 use Rattle.inspect.specs.declared.formula.Policy.{Policy}
 use Rattle.inspect.specs.Formulas.{policy-text}
 use Rattle.inspect.specs.Lines.{after, lines-text}
-use Rattle.inspect.specs.Reports.{pairs-line, Account, Accounts, Reports}
+use Rattle.inspect.specs.Reports.{pairs-line, Accounts, Reports}
 use Rattle.inspect.specs.Trees.{declared, Builds}
 use Rattle.inspect.proofs.Parts.{file-orderly}
 use Rattle.inspect.proofs.Stacking.{all-declared}

@@ -1,20 +1,20 @@
 -- The stack under the declarations of the whole file.
-use mathlib.Core.Bool.{Bool, true, false, _&&_}
+use mathlib.Core.Bool.{true, false}
 use mathlib.Core.List.{List, [], _∷_, _++_, map, reverse, reverse-append, map-append}
-use mathlib.Core.Path.{_≡_, refl, sym, ap, subst, _∙_}
+use mathlib.Core.Path.{_≡_, refl, sym, ap, _∙_}
 use Prim.Native.Nat.{ℕ}
 use lib.Dec.{leb}
 use Rattle.std.proofs.shelf.Tests.{and-parts, false≢true}
 use Rattle.policy.specs.Commands.{Command, attribute, operator, restrict, act, Context, declares}
 use Rattle.policy.specs.Policies as p
-use Rattle.policy.specs.Reading.{Item, as-target, as-policy, puts, stack-of, top, Reading, Stop, stopped, ended, Progress, unopened, scan-file, commands-of, read-as, reads}
+use Rattle.policy.specs.Reading.{Item, puts, stack-of, top, Stop, stopped, ended, unopened, scan-file, commands-of, read-as, reads}
 use Rattle.std.specs.declared.result.Result.the-variants.{Ok}
 use Rattle.inspect.specs.declared.formula.Item as i
 use Rattle.inspect.specs.declared.formula.Item.the-variants as item-of-kind
 use Rattle.inspect.specs.declared.formula.Policy as q
 use Rattle.inspect.specs.Trees.{item, stack, policy, Builds}
 use Rattle.inspect.specs.Lines.{after}
-use Rattle.inspect.proofs.Parts.{part-of, parted, file-orderly}
+use Rattle.inspect.proofs.Parts.{parted, file-orderly}
 
 -- the stack after some commands, with all declarations made before
 abbrev pub stack-under : Context → List Command → List Item → List Item

@@ -1,6 +1,6 @@
 -- What operators, decisions, attributes and pairs are called.
 use mathlib.Core.Bool.{cond}
-use mathlib.Core.List.{List, [], _∷_, _++_}
+use mathlib.Core.List.{List, [], _++_}
 use Prim.Native.Nat.{ℕ, _-_}
 use lib.Chars.{codes}
 use lib.Dec.{eqb}

@@ -4,8 +4,9 @@ ghost use mathlib.Core.Path.{_≡_};
 ghost use Rattle.std.specs.Vec.{made};
 ghost use Rattle.policy.specs.Reading.{reads};
 ghost use Rattle.policy.specs.Refusals as refusals;
+ghost use Rattle.policy.specs.View as view;
 ghost use Rattle.inspect.specs.Plain.{all-plain};
-ghost use Rattle.inspect.specs.Reports.{refusal-line, Accounts, Reports};
+ghost use Rattle.inspect.specs.Reports.{refusal-line, Formulated, Accounts, Reports};
 ghost use Rattle.inspect.specs.Written.{written};
 use crate::failure::Failure;
 use crate::failure::FailureFromAlloc;
@@ -32,6 +33,16 @@ fn refusal(heap: Global, fault: ReadFault) -> Result<Text, AllocError>
     Ok(text)
 }
 
+// The formula of a file that reads well; the reader knows all that the file declares.
+fn add_formula(heap: Global, text: &mut Text, reader: &Reader, file: &[u8]) -> Result<(), Failure>
+    ensures { λ r. ⌜ made r (λ _. Formulated (now (text .entry)) (now (text .exit)) (view.context (now (reader .entry))) (reads (now (file .entry)))) ⌝ }
+{
+    text.add("formula: ")?;
+    let policy = formula(heap, file)?;
+    show::policy(heap, text, reader, &policy)?;
+    Ok(())
+}
+
 // The commands, the formula and the number of pairs of a file that reads well.
 fn account(heap: Global, file: &[u8], pairs: u8) -> Result<Text, Failure>
     ensures { λ r. ⌜ made r (λ t. Accounts (written t) (now (file .entry)) pairs (reads (now (file .entry)))) ⌝ }
@@ -39,9 +50,7 @@ fn account(heap: Global, file: &[u8], pairs: u8) -> Result<Text, Failure>
     let mut text = Text::new(heap);
     let mut reader = Reader::new(file);
     lines(heap, &mut text, &mut reader)?;
-    let policy = formula(heap, file)?;
-    text.add("formula: ")?;
-    show::policy(heap, &mut text, &reader, &policy)?;
+    add_formula(heap, &mut text, &reader, file)?;
     text.add("\npairs ")?;
     text.number(heap, pairs as usize)?;
     text.add("\n")?;

@@ -1,6 +1,5 @@
-use mathlib.Core.List.{List, _++_}
-use mathlib.Core.Path.{_≡_, ap, _∙_}
-use Prim.Native.Nat.{ℕ, _-_}
+use mathlib.Core.Path.{ap}
+use Prim.Native.Nat.{_-_}
 use Rattle.std.specs.Written.{decimal}
 use Rattle.inspect.specs.Names.{value-name}
 use Rattle.inspect.specs.Plain.{kept}

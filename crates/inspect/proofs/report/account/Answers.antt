@@ -1,6 +1,8 @@
-use mathlib.Core.List.{List, [], _∷_, _++_}
-use mathlib.Core.Path.{_≡_, sym, ap, _∙_}
+use mathlib.Core.List.{append-assoc}
+use mathlib.Core.Path.{_∙_}
+use lib.Chars.{codes}
 use Rattle.policy.specs.View.{context}
+use Rattle.inspect.specs.Formulas.{policy-text}
 use Rattle.inspect.specs.Plain.{kept}
 use Rattle.inspect.proofs.Joins.{then, whole, named}
 use Rattle.inspect.proofs.Reporting.{new-lines, new-known, accounted}
@@ -15,6 +17,7 @@ returns c =
     let listed = c .in-Continue-lines .ensures tt in
     let lines = named (new-lines first file (n .progress) (n .bytes) (n .place)) (listed .text) in
     let known = listed .known ∙ new-known first file (n .progress) (n .bytes) (n .place) in
-    let last = then (c .in-Continue-add-2 .ensures tt) (then (c .in-Continue-number .ensures tt) (c .in-Continue-add-3 .ensures tt)) in
-    let text = whole (c .new-text .ensures) (then lines (then (c .in-Continue-add .ensures tt) (then (c .in-Continue-policy-2 .ensures tt) last))) in
-    accounted file _ (c .args .pairs) (c .in-Continue-policy .policy) (context (c .lines .last .reader)) known (c .in-Continue-policy .ensures tt) text
+    let formula = c .in-Continue-add-formula .ensures tt in
+    let last = then (c .in-Continue-add .ensures tt) (then (c .in-Continue-number .ensures tt) (c .in-Continue-add-2 .ensures tt)) in
+    let both = named (append-assoc (codes "formula: ") (policy-text (context (c .lines .last .reader)) (formula .tree)) _) (then (formula .text) last) in
+    accounted file _ (c .args .pairs) (formula .tree) (context (c .lines .last .reader)) known (formula .builds) (whole (c .new-text .ensures) (then lines both))

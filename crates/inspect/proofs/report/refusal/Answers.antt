@@ -1,4 +1,3 @@
-use mathlib.Core.List.{_∷_, [], _++_}
 use mathlib.Core.Path.{ap}
 use Rattle.std.specs.Written.{decimal}
 use Rattle.inspect.specs.Plain.{kept}

@@ -1,10 +1,10 @@
-use mathlib.Core.Path.{_≡_, sym, ap, subst, _∙_}
+use mathlib.Core.Path.{sym, ap, subst, _∙_}
 use Rattle.policy.specs.Commands.{Context}
 use Rattle.policy.specs.View.{context}
 use Rattle.inspect.specs.declared.formula.Target.{Target}
 use Rattle.inspect.specs.Formulas.{target-text}
 use Rattle.inspect.specs.Plain.{kept}
-use Rattle.inspect.specs.Written.{Added, Adds}
+use Rattle.inspect.specs.Written.{Adds}
 use Rattle.inspect.proofs.Joins.{named, named-adds}
 use Rattle.inspect.proofs.Naming.{kept-change, kept-operator}
 use Rattle.inspect.proofs.Showing.{adds-prefixed, adds-infixed}

@@ -1,4 +1,4 @@
-use mathlib.Core.List.{List, _∷_}
+use mathlib.Core.List.{List}
 use mathlib.Core.Path.{refl, ap, _∙_}
 use Rattle.std.specs.Of.Vec.{vec-items}
 use Rattle.policy.specs.Reading.{Item, changes, combines, guards}

@@ -1,6 +1,5 @@
 use mathlib.Core.List.{List, [], _∷_, _++_}
 use mathlib.Core.Path.{_≡_, sym, ap, _∙_}
-use Prim.Native.Nat.{ℕ}
 use Rattle.std.specs.Of.Vec.{vec-items}
 use Rattle.policy.specs.Commands.{Command, Context}
 use Rattle.policy.specs.Reading.{Item, commands-of}

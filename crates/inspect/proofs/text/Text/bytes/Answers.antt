@@ -1,6 +1,5 @@
-use mathlib.Core.Path.{_≡_, ap, _∙_}
+use mathlib.Core.Path.{ap, _∙_}
 use mathlib.Core.List.{_++_}
-use lib.ListN.{take, length}
 use Rattle.std.proofs.shelf.Lists.{take-all}
 use Rattle.inspect.specs.Plain.{kept}
 use Rattle.inspect.specs.Written.{written}

@@ -1,5 +1,4 @@
-use mathlib.Core.Bool.{true}
-use mathlib.Core.Path.{_≡_, ap}
+use mathlib.Core.Path.{ap}
 use Rattle.inspect.specs.Plain.{all-plain}
 use Rattle.inspect.proofs.text.Text.new.Needs as need
 

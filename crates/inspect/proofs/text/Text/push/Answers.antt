@@ -1,4 +1,4 @@
-use mathlib.Core.Path.{_≡_, sym, _∙_}
+use mathlib.Core.Path.{_≡_, sym}
 use mathlib.Core.Bool.{true, false}
 use Rattle.inspect.specs.Plain.{is-plain}
 use Rattle.inspect.proofs.Keeping.{still-plain, added-plain, added-none}
