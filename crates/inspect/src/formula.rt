@@ -3,7 +3,7 @@ use policy::Decision;
 
 mod build;
 
-pub use build::formula;
+pub(crate) use build::formula;
 
 #[derive(Drop)]
 pub enum Target {

@@ -145,7 +145,7 @@ fn line(
 }
 
 // The lines of all commands ahead of a reader, up to the end of the file or to its first fault.
-pub fn lines(heap: Global, text: &mut Text, reader: &mut Reader) -> Result<(), AllocError>
+pub(crate) fn lines(heap: Global, text: &mut Text, reader: &mut Reader) -> Result<(), AllocError>
     ensures { λ r. ⌜ lists.Lists r (now (text .entry)) (now (text .exit)) (now (reader .entry)) (now (reader .exit)) ⌝ }
 {
     loop {

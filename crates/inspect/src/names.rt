@@ -9,7 +9,7 @@ use policy::Reader;
 use std::alloc::AllocError;
 use std::alloc::Global;
 
-pub fn change(code: u8) -> &'static str
+pub(crate) fn change(code: u8) -> &'static str
     ensures { λ r. ⌜ now r ≡ names.change-name code ⌝ }
 {
     match code {
@@ -19,7 +19,7 @@ pub fn change(code: u8) -> &'static str
     }
 }
 
-pub fn operator(code: u8) -> &'static str
+pub(crate) fn operator(code: u8) -> &'static str
     ensures { λ r. ⌜ now r ≡ names.operator-name code ⌝ }
 {
     match code {
@@ -40,7 +40,7 @@ pub fn operator(code: u8) -> &'static str
     }
 }
 
-pub fn constant(decision: Decision) -> &'static str
+pub(crate) fn constant(decision: Decision) -> &'static str
     ensures { λ r. ⌜ now r ≡ names.constant-name decision ⌝ }
 {
     match decision {
@@ -51,7 +51,7 @@ pub fn constant(decision: Decision) -> &'static str
 }
 
 // The name of an attribute, without the 00 bytes that fill it up.
-pub fn attribute(text: &mut Text, reader: &Reader, number: u8) -> Result<(), AllocError>
+pub(crate) fn attribute(text: &mut Text, reader: &Reader, number: u8) -> Result<(), AllocError>
     ensures { λ r. ⌜ Adds r (now (text .entry)) (now (text .exit)) (names.attribute-text (view.context (now (reader .entry))) number) ⌝ }
 {
     match reader.attribute(number) {
@@ -61,7 +61,12 @@ pub fn attribute(text: &mut Text, reader: &Reader, number: u8) -> Result<(), All
 }
 
 // The name of an attribute, and the number of a value within it. No pair is below the start of its attribute.
-pub fn pair(heap: Global, text: &mut Text, reader: &Reader, number: u8) -> Result<(), AllocError>
+pub(crate) fn pair(
+    heap: Global,
+    text: &mut Text,
+    reader: &Reader,
+    number: u8,
+) -> Result<(), AllocError>
     ensures { λ r. ⌜ Adds r (now (text .entry)) (now (text .exit)) (names.pair-text (view.context (now (reader .entry))) number) ⌝ }
 {
     let Some(attribute) = reader.attribute_with(number) else {

@@ -58,7 +58,7 @@ fn account(heap: Global, file: &[u8], pairs: u8) -> Result<Text, Failure>
 }
 
 // All that is printed of a file.
-pub fn report(heap: Global, file: &[u8]) -> Result<Text, Failure>
+pub(crate) fn report(heap: Global, file: &[u8]) -> Result<Text, Failure>
     ensures exact { λ r. ⌜ made r (λ t. Reports (written t) (now (file .entry)) (reads (now (file .entry)))) ⌝ }
     ensures plain { λ r. ⌜ made r (λ t. all-plain (written t) ≡ true) ⌝ }
 {

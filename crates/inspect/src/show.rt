@@ -35,7 +35,7 @@ fn target(heap: Global, text: &mut Text, reader: &Reader, shown: &Target) -> Res
     }
 }
 
-pub fn policy(
+pub(crate) fn policy(
     heap: Global,
     text: &mut Text,
     reader: &Reader,

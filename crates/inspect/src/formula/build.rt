@@ -99,7 +99,7 @@ fn act(heap: Global, items: &mut Vec<Item>, taken: Command) -> Result<(), Failur
 }
 
 // The tree of the policy of a file that reads well.
-pub fn formula(heap: Global, file: &[u8]) -> Result<Policy, Failure>
+pub(crate) fn formula(heap: Global, file: &[u8]) -> Result<Policy, Failure>
     ensures { λ r. ⌜ Builds r (reads (now (file .entry))) ⌝ }
 {
     let mut items = Vec::new(heap);

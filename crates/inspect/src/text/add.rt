@@ -15,7 +15,7 @@ fn is_plain(byte: u8) -> bool
 }
 
 impl Text {
-    pub fn new(heap: Global) -> Text
+    pub(crate) fn new(heap: Global) -> Text
         ensures { λ r. ⌜ written r ≡ [] ⌝ }
     {
         Text {
@@ -23,7 +23,7 @@ impl Text {
         }
     }
 
-    pub fn as_str(&self) -> &str
+    pub(crate) fn as_str(&self) -> &str
         ensures { λ r. ⌜ now r ≡ written (now (self .entry)) ⌝ }
     {
         self.text.as_str()
@@ -40,7 +40,7 @@ impl Text {
     }
 
     // Adds those of the bytes that are plain.
-    pub fn bytes(&mut self, bytes: &[u8]) -> Result<(), AllocError>
+    pub(crate) fn bytes(&mut self, bytes: &[u8]) -> Result<(), AllocError>
         ensures { λ r. ⌜ Adds r (now (self .entry)) (now (self .exit)) (kept (now (bytes .entry))) ⌝ }
     {
         for byte in bytes {
@@ -49,13 +49,13 @@ impl Text {
         Ok(())
     }
 
-    pub fn add(&mut self, words: &str) -> Result<(), AllocError>
+    pub(crate) fn add(&mut self, words: &str) -> Result<(), AllocError>
         ensures { λ r. ⌜ Adds r (now (self .entry)) (now (self .exit)) (kept (now (words .entry))) ⌝ }
     {
         self.bytes(words.as_bytes())
     }
 
-    pub fn number(&mut self, heap: Global, number: usize) -> Result<(), AllocError>
+    pub(crate) fn number(&mut self, heap: Global, number: usize) -> Result<(), AllocError>
         ensures { λ r. ⌜ Adds r (now (self .entry)) (now (self .exit)) (decimal number) ⌝ }
     {
         let digits = number.to_string(heap)?;
