@@ -1,0 +1,16 @@
+pub mod Spreads
+pub mod Stands
+pub mod Makes
+pub mod Words
+pub mod Chains
+pub mod Kept
+pub mod Canonical
+pub mod Rulings
+pub mod Combines
+pub mod Splits
+pub mod Memos
+pub mod Halves
+pub mod Fixes
+pub mod Once
+pub mod Calling
+pub mod Lawful

@@ -1,0 +1,11 @@
+pub mod Spread
+pub mod Store
+pub mod Words
+pub mod Told
+pub mod Rules
+pub mod Combining
+pub mod Fixing
+pub mod Memo
+pub mod Laws
+pub mod Held
+pub mod Calls
