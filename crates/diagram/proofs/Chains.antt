@@ -181,10 +181,10 @@ grows ws f p l h b room bin =
       link = grown-link ws f p l h nx b (f + 1) r q;
       head = grown-head ws f p l h nx b (f + 1) r q;
       olds = λ k lt.
-          let a0 = old (7 * k) (omega arith) (omega arith) (omega arith) (omega arith) (omega arith) in
-          let a1 = old (7 * k + 1) (omega arith) (omega arith) (omega arith) (omega arith) (omega arith) in
-          let a2 = old (7 * k + 2) (omega arith) (omega arith) (omega arith) (omega arith) (omega arith) in
-          λ i. node-of (a0 i) (a1 i) (a2 i);
+          let word0 = old (7 * k) (omega arith) (omega arith) (omega arith) (omega arith) (omega arith) in
+          let word1 = old (7 * k + 1) (omega arith) (omega arith) (omega arith) (omega arith) (omega arith) in
+          let word2 = old (7 * k + 2) (omega arith) (omega arith) (omega arith) (omega arith) (omega arith) in
+          λ i. node-of (word0 i) (word1 i) (word2 i);
       links = λ k lt. old (7 * k + 4) (omega arith) (omega arith) (omega arith) (omega arith) (omega arith);
       heads = λ k ne. old (7 * k + 3) (omega arith) (omega arith) (omega arith) (omega arith) (omega arith);
     }
@@ -242,10 +242,10 @@ module _ (ws : List ℕ) (m : ℕ) (chained : Chained ws (m + 1)) where
 
   pub shrunk-node : (k : ℕ) → node-at shrunk k ≡ node-at ws k
   shrunk-node k =
-      let a0 = shrunk-old (7 * k) (omega arith) in
-      let a1 = shrunk-old (7 * k + 1) (omega arith) in
-      let a2 = shrunk-old (7 * k + 2) (omega arith) in
-      λ i. node-of (a0 i) (a1 i) (a2 i)
+      let word0 = shrunk-old (7 * k) (omega arith) in
+      let word1 = shrunk-old (7 * k + 1) (omega arith) in
+      let word2 = shrunk-old (7 * k + 2) (omega arith) in
+      λ i. node-of (word0 i) (word1 i) (word2 i)
 
   shrunk-bucket : (k : ℕ) → bucket-at shrunk k ≡ bucket-at ws k
   unfolding bucket-at
