@@ -1,4 +1,5 @@
 // The policy bench: up to four policies as decision diagrams in one table of lent memory, asked through attribute sources.
+#![tactic(auto)]
 
 mod bench;
 mod build;

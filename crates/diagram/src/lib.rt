@@ -1,4 +1,5 @@
 // Reduced ordered decision diagrams in memory that the owner lends.
+#![tactic(auto)]
 
 mod close;
 mod combine;

@@ -2,6 +2,8 @@
 //
 // For a file that is refused: `refused LAYER NUMBER PLACE`. For one that reads well: a line for each command with its
 // place, the policy as one formula, and the number of pairs.
+#![tactic(auto)]
+
 ghost use Rattle.std.specs.Prelude.{◌≡◌, ◌+◌, ◌≤◌, IfOk, vec_len};
 
 use crate::report::report;

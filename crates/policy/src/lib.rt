@@ -1,4 +1,6 @@
 // Policy files: what they mean, and a reader that is exact for every sequence of bytes.
+#![tactic(auto)]
+
 ghost use Rattle.policy.specs.Laws.{LawfullyRead};
 ghost use Rattle.policy.specs.Reading.{reads};
 ghost use Rattle.policy.specs.View.{Answers};

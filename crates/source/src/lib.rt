@@ -1,4 +1,6 @@
 // Attribute sources: whatever tells which attribute-value pairs hold of a user. A source is seen by its meaning alone.
+#![tactic(auto)]
+
 ghost use Rattle.std.specs.Prelude.{◌≡◌};
 ghost use Rattle.source.specs.Meanings.{Meaning, tells as told};
 ghost use Rattle.source.specs.Sets.{QueryOf};

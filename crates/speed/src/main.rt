@@ -1,5 +1,7 @@
 // Times building, closing and counting in a table of 65,536 nodes with a memo of 4,096 entries. The figures go to standard
 // error.
+#![tactic(auto)]
+
 use diagram::{DecisionSets, Diagrams, Kind, Node, Refusal, Rule, Truth};
 use std::time::Instant;
 

@@ -1,4 +1,6 @@
 // Many cases as tests. Expected values come from the documents or from plain tables, never from the program.
+#![tactic(auto)]
+
 #[cfg(test)]
 mod closing;
 #[cfg(test)]

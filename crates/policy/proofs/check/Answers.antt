@@ -38,12 +38,12 @@ pub loop-reader-smaller : goal.loop-reader-smaller
 loop-reader-smaller c =
     let r = c.loop-reader.reader in
     let s = c.next.new.self in
-    let e = c.in-ok-next.ensures in
+    let e = c.in_ok-next.ensures in
     omega (arith, place_moves r s _ e.is, place_within r s _ e.is, ap length c.loop-reader.invariant.0, ap length e.same)
 
 pub loop-reader-preserved : goal.loop-reader-preserved
 loop-reader-preserved c =
     let r = c.loop-reader.reader in
     let s = c.next.new.self in
-    let e = c.in-ok-next.ensures in
-    (e.same ∙ c.loop-reader.invariant.0, c.loop-reader.invariant.1 ∙ stop_later r s _ e.is e.same (sym c.if-is-end.ensures))
+    let e = c.in_ok-next.ensures in
+    (e.same ∙ c.loop-reader.invariant.0, c.loop-reader.invariant.1 ∙ stop_later r s _ e.is e.same (sym c.if-is_end.ensures))

@@ -4,7 +4,7 @@ use Rattle.std.proofs.lemmas.List.{get_or_past}
 use Rattle.policy.specs.Commands.{padded}
 use Rattle.policy.proofs.Spelling.{rest, name_zero, name_letter, name_ended, name_other, name_all, too_low, too_high, is_name_from, is_name_zero, is_name_not}
 use Rattle.policy.proofs.checks.is_name.Goals as goal
-use Rattle.policy.proofs.checks.is_name.Goals.{then-ended-via-then-ended, then-ended-via-else-ended+then-byte-lt-FIRST-PRINTABLE, then-ended-via-else-ended+else-byte-lt-FIRST-PRINTABLE+then-byte-gt-LAST-PRINTABLE, then-byte-eq0+else-i-eq0, else-byte-eq0+else-ended+else-byte-lt-FIRST-PRINTABLE+else-byte-gt-LAST-PRINTABLE}
+use Rattle.policy.proofs.checks.is_name.Goals.{then-ended-via-then-ended, then-ended-via-else-ended+then-byte-lt-FIRST_PRINTABLE, then-ended-via-else-ended+else-byte-lt-FIRST_PRINTABLE+then-byte-gt-LAST_PRINTABLE, then-byte-eq0+else-i-eq0, else-byte-eq0+else-ended+else-byte-lt-FIRST_PRINTABLE+else-byte-gt-LAST_PRINTABLE}
 
 pub returns-then-i-eq0 : goal.returns-then-i-eq0
 returns-then-i-eq0 c = is_name_zero _ (subst (λ i. get_or c.args.name.now i 0 ≡ 0) c.if-i-eq0.true c.if-byte-eq0.true)
@@ -17,8 +17,8 @@ returns-then-ended c =
     let nz = c.if-byte-eq0.false in
     is_name_not _ (c.loop-i.invariant.0 ∙ elim c.then-ended.branch [
       | then-ended-via-then-ended w ↦ ap (λ t. rest t (drop i bs)) w.if-ended.true ∙ name_ended bs i h nz
-      | then-ended-via-else-ended+then-byte-lt-FIRST-PRINTABLE w ↦ name_other bs i _ h nz (too_low _ w.if-byte-lt-FIRST-PRINTABLE.true)
-      | then-ended-via-else-ended+else-byte-lt-FIRST-PRINTABLE+then-byte-gt-LAST-PRINTABLE w ↦ name_other bs i _ h nz (too_high _ w.if-byte-gt-LAST-PRINTABLE.true)
+      | then-ended-via-else-ended+then-byte-lt-FIRST_PRINTABLE w ↦ name_other bs i _ h nz (too_low _ w.if-byte-lt-FIRST_PRINTABLE.true)
+      | then-ended-via-else-ended+else-byte-lt-FIRST_PRINTABLE+then-byte-gt-LAST_PRINTABLE w ↦ name_other bs i _ h nz (too_high _ w.if-byte-gt-LAST-PRINTABLE.true)
     ])
 
 pub loop-i-preserved : goal.loop-i-preserved
@@ -31,7 +31,7 @@ loop-i-preserved c =
         c.loop-i.invariant.0 ∙ name_zero bs i c.loop-i.ended h w.if-byte-eq0.true ∙ ap (λ t. rest t (drop (i + 1) bs)) (sym w.ended-is),
         λ _. let pos : 0 < i = omega arith in c.loop-i.invariant.1 pos,
       )
-      | else-byte-eq0+else-ended+else-byte-lt-FIRST-PRINTABLE+else-byte-gt-LAST-PRINTABLE w ↦ (
+      | else-byte-eq0+else-ended+else-byte-lt-FIRST_PRINTABLE+else-byte-gt-LAST_PRINTABLE w ↦ (
         c.loop-i.invariant.0 ∙ ap (λ t. rest t (drop i bs)) w.if-ended.false ∙ name_letter bs i h w.if-byte-lt-FIRST-PRINTABLE.false w.if-byte-gt-LAST-PRINTABLE.false ∙ ap (λ t. rest t (drop (i + 1) bs)) (sym (w.ended-is ∙ w.if-ended.false)),
         λ _. ⊎_elim
             (λ (z : i ≡ 0). ne_eqb _ _ (subst (λ j. get_or bs j 0 ≡ 0 → ⊥) z w.if-byte-eq0.false))

@@ -14,7 +14,7 @@ returns-in-Ok c =
     let t = c.next.new.self in
     let x = c.in-Ok.command in
     let e = c.in-Ok.ensures in
-    (coming s c.if-self.false ∙ first_ahead s.reader t x e.is e.same ∙ ap (λ b. command x ∷ cond b [] (ahead t).commands) (sym c.is-end-self.ensures), sym e.is)
+    (coming s c.if-self.false ∙ first_ahead s.reader t x e.is e.same ∙ ap (λ b. command x ∷ cond b [] (ahead t).commands) (sym c.is_end-self.ensures), sym e.is)
 
 pub returns-in-Err : goal.returns-in-Err
 returns-in-Err c =

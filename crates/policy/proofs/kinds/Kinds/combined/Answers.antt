@@ -9,4 +9,4 @@ pub returns-then-not-is-same : goal.returns-then-not-is-same
 returns-then-not-is-same c = apart _ _ c.if-depth-lt2.false (sym c.if-not-is-same.ensures)
 
 pub returns : goal.returns
-returns c = both_alike c.args.self.items c.args.self.depth c.if-depth-lt2.false (sym c.if-not-is-same.ensures)
+returns c = both_alike c.args.self.items c.args.self.depth c.if-depth-lt2.false (sym c.if-not-is_same.ensures)

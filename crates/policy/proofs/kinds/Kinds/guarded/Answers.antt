@@ -19,4 +19,4 @@ returns-then-not-is-policy c =
 
 pub returns : goal.returns
 returns c =
-    guards_two c.args.self.items c.args.self.depth c.if-depth-lt2.false (omega arith) (and_from _ _ (sym c.if-not-is-policy.ensures) (not_from_false _ (sym c.if-is-policy.ensures)))
+    guards_two c.args.self.items c.args.self.depth c.if-depth-lt2.false (omega arith) (and_from _ _ (sym c.if-not-is_policy.ensures) (not_from_false _ (sym c.if-is_policy.ensures)))

@@ -18,9 +18,9 @@ pub returns-then-declares : goal.returns-then-declares
 returns-then-declares c = sym (and_right (is_name c.args.name.now) _ (and_left _ _ (not-true _ (sym c.if-declares.ensures))))
 
 pub returns-then-count-ge1 : goal.returns-then-count-ge1
-returns-then-count-ge1 c = room c.args.count c.args.self.now.pairs c.if-count-ge1.true (omega arith) ∙ named _ _ _ (sym c.if-not-is-name.ensures) (not-false _ (sym c.if-declares.ensures))
+returns-then-count-ge1 c = room c.args.count c.args.self.now.pairs c.if-count-ge1.true (omega arith) ∙ named _ _ _ (sym c.if-not-is_name.ensures) (not-false _ (sym c.if-declares.ensures))
 
 pub returns-else-count-ge1 : goal.returns-else-count-ge1
 returns-else-count-ge1 c =
     let few : leb 1 c.args.count ≡ (leb 1 c.args.count && leb (c.args.self.now.pairs + c.args.count) 48) = grind (arith, nat_tests) in
-    few ∙ named _ _ _ (sym c.if-not-is-name.ensures) (not-false _ (sym c.if-declares.ensures))
+    few ∙ named _ _ _ (sym c.if-not-is_name.ensures) (not-false _ (sym c.if-declares.ensures))

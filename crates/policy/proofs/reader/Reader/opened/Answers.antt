@@ -13,7 +13,7 @@ pub returns-then-self-gt-MOST-BYTES : goal.returns-then-self-gt-MOST-BYTES
 returns-then-self-gt-MOST-BYTES c = let r = c.args.self.now in step_too_long (progress r) (bytes r) (place r) c.if-self-gt0.false c.if-self-gt-MOST-BYTES.true
 
 pub returns-in-Some : goal.returns-in-Some
-returns-in-Some c = let r = c.args.self.now in step_wrong_opening (progress r) (bytes r) (place r) _ c.if-self-gt0.false c.if-self-gt-MOST-BYTES.false c.in-Some.ensures
+returns-in-Some c = let r = c.args.self.now in step_wrong_opening (progress r) (bytes r) (place r) _ c.if-self-gt0.false c.if-self-gt-MOST_BYTES.false c.in-Some.ensures
 
 pub returns-in-None : goal.returns-in-None
 returns-in-None c =
@@ -22,4 +22,4 @@ returns-in-None c =
     let fresh : r.part ≡ 0 = omega arith in
     let at : r.place ≡ 5 = r.first fresh in
     let long = differs_long opening (bytes r) 0 none in
-    record { short = c.if-self-gt-MOST-BYTES.false; within = omega arith; is = step_opened (progress r) (bytes r) (place r) c.if-self-gt0.false c.if-self-gt-MOST-BYTES.false none }
+    record { short = c.if-self-gt-MOST_BYTES.false; within = omega arith; is = step_opened (progress r) (bytes r) (place r) c.if-self-gt0.false c.if-self-gt-MOST_BYTES.false none }

@@ -42,7 +42,7 @@ returns c =
     let long = length_first (own_digits r.file.now) r.own r.operators (omega arith) in
     let from = get_or r.own i 0 in
     let s : from + 9 - from ≡ 9 = omega arith in
-    let part : c.copy-from-slice.new.self ≡ own_digits r.file.now from = c.copy-from-slice.ensures.after ∙ cut r.file.now from (from + 9) 9 s in
+    let part : c.copy_from_slice.new.self ≡ own_digits r.file.now from = c.copy_from_slice.ensures.after ∙ cut r.file.now from (from + 9) 9 s in
     let h : c.args.code - 32 < r.operators = c.if-i-self.false in (
       an_operator (context r).operators c.args.code c.if-code-lt32.false (omega (arith, long, h)),
       part ∙ sym (own_of (context r).operators c.args.code c.if-code-lt32.false ∙ getD_first (own_digits r.file.now) r.own r.operators i 0 [] h (omega arith)),

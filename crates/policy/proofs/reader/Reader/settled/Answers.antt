@@ -45,7 +45,7 @@ pub returns-then-place-self : goal.returns-then-place-self
 returns-then-place-self c =
     let r = c.args.self.now in
     let k = c.in-Some.kinds in
-    byte_after (progress r) (bytes r) (place r) c.args.opcode (command c.args.taken) (stack k) c.if-not-allows.ensures c.in-Some.ensures (fits k _ c.depth.ensures c.if-depth-gt-MOST-ITEMS.false) (sym c.if-not-is-end.ensures) (sym c.if-not-is-one-policy.ensures) c.if-place-self.true
+    byte_after (progress r) (bytes r) (place r) c.args.opcode (command c.args.taken) (stack k) c.if-not-allows.ensures c.in-Some.ensures (fits k _ c.depth.ensures c.if-depth-gt-MOST_ITEMS.false) (sym c.if-not-is_end.ensures) (sym c.if-not-is_one_policy.ensures) c.if-place-self.true
 
 pub returns : goal.returns
 returns c =
@@ -54,5 +54,5 @@ returns c =
     record {
       allows = sym c.if-not-allows.ensures;
       few = omega (arith, c.depth.ensures);
-      is = taken_last (progress r) (bytes r) (place r) c.args.opcode (command c.args.taken) (stack k) c.if-not-allows.ensures c.in-Some.ensures (fits k _ c.depth.ensures c.if-depth-gt-MOST-ITEMS.false) (sym c.if-not-is-one-policy.ensures) c.if-place-self.false;
+      is = taken_last (progress r) (bytes r) (place r) c.args.opcode (command c.args.taken) (stack k) c.if-not-allows.ensures c.in-Some.ensures (fits k _ c.depth.ensures c.if-depth-gt-MOST_ITEMS.false) (sym c.if-not-is_one_policy.ensures) c.if-place-self.false;
     }

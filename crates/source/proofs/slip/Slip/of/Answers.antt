@@ -3,4 +3,4 @@ use Rattle.source.proofs.Slips.{held}
 use Rattle.source.proofs.slip.Slip.of.Goals as goal
 
 pub returns : goal.returns
-returns c = record { bytes = refl; every-meaning = held }
+returns c = record { bytes = refl; every_meaning = held }
