@@ -1,9 +1,9 @@
 -- The file that commands stand for: its declarations hang together, and its stack ends with one policy.
-use Rattle.std.proofs.Common.{◌≡◌, ℕ, zero, suc, ◌+◌, ◌-◌, ◌<◌, ◌≤◌, Bool, true, false, cond, ltb, leb, List, [], ◌∷◌, ◌++◌, get_or, Some, None, Option, unwrap_or, sym, refl, ap, subst, arith}
+use Rattle.std.proofs.Common.{◌≡◌, ℕ, zero, suc, ◌+◌, ◌-◌, ◌<◌, ◌≤◌, Bool, true, false, cond, ltb, leb, List, [], ◌∷◌, ◌++◌, get_or, Some, None, unwrap_or, sym, refl, ap, subst, arith}
 use Rattle.std.proofs.lemmas.Bool.{and_parts, ltb-true, ltb-false, false≢true}
 use Rattle.policy.specs.declared.kind.Kind.{Kind}
 use Rattle.policy.specs.declared.kind.Kind.TheVariants as kind
-use Rattle.policy.specs.Values.{Digits, standard, digits_of}
+use Rattle.policy.specs.Values.{standard, digits_of}
 use Rattle.policy.specs.Policies.{Attribute, Target, Policy, Constraint}
 use Rattle.policy.specs.Commands.{Command, attribute, operator, restrict, act, Restriction, exclusion, most, least, Action, push_pair, push, change, combine, guard, end, Context, allowed, acts, restricts, turns, one_item, two_alike, guarding, kinds_after, is_end, one_policy, declares, nobody, are_digits}
 use Rattle.policy.specs.Reading.{Progress, Step, refused, took, step, ended, before, goes_on, scan, constraint, constrains, constraints_of, Item, as_target, as_policy, attribute_with, changes, combines, guards, does, puts, stack_of}

@@ -18,7 +18,7 @@ returns-then-ended c =
     is_name_not _ (c.loop-i.invariant.0 ∙ elim c.then-ended.branch [
       | then-ended-via-then-ended w ↦ ap (λ t. rest t (drop i bs)) w.if-ended.true ∙ name_ended bs i h nz
       | then-ended-via-else-ended+then-byte-lt-FIRST_PRINTABLE w ↦ name_other bs i _ h nz (too_low _ w.if-byte-lt-FIRST_PRINTABLE.true)
-      | then-ended-via-else-ended+else-byte-lt-FIRST_PRINTABLE+then-byte-gt-LAST_PRINTABLE w ↦ name_other bs i _ h nz (too_high _ w.if-byte-gt-LAST-PRINTABLE.true)
+      | then-ended-via-else-ended+else-byte-lt-FIRST_PRINTABLE+then-byte-gt-LAST_PRINTABLE w ↦ name_other bs i _ h nz (too_high _ w.if-byte-gt-LAST_PRINTABLE.true)
     ])
 
 pub loop-i-preserved : goal.loop-i-preserved
@@ -32,7 +32,7 @@ loop-i-preserved c =
         λ _. let pos : 0 < i = omega arith in c.loop-i.invariant.1 pos,
       )
       | else-byte-eq0+else-ended+else-byte-lt-FIRST_PRINTABLE+else-byte-gt-LAST_PRINTABLE w ↦ (
-        c.loop-i.invariant.0 ∙ ap (λ t. rest t (drop i bs)) w.if-ended.false ∙ name_letter bs i h w.if-byte-lt-FIRST-PRINTABLE.false w.if-byte-gt-LAST-PRINTABLE.false ∙ ap (λ t. rest t (drop (i + 1) bs)) (sym (w.ended-is ∙ w.if-ended.false)),
+        c.loop-i.invariant.0 ∙ ap (λ t. rest t (drop i bs)) w.if-ended.false ∙ name_letter bs i h w.if-byte-lt-FIRST_PRINTABLE.false w.if-byte-gt-LAST_PRINTABLE.false ∙ ap (λ t. rest t (drop (i + 1) bs)) (sym (w.ended-is ∙ w.if-ended.false)),
         λ _. ⊎_elim
             (λ (z : i ≡ 0). ne_eqb _ _ (subst (λ j. get_or bs j 0 ≡ 0 → ⊥) z w.if-byte-eq0.false))
             (λ (z : i ≡ 0 → ⊥). let pos : 0 < i = omega arith in c.loop-i.invariant.1 pos)

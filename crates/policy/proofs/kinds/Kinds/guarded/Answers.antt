@@ -4,17 +4,17 @@ use Rattle.policy.specs.declared.kind.Kind.TheVariants.{Target}
 use Rattle.policy.specs.Commands.{is_policy}
 use Rattle.policy.proofs.Stacks.{few_to_guard, not_guardable, guards_two}
 use Rattle.policy.proofs.kinds.Kinds.guarded.Goals as goal
-use Rattle.policy.proofs.kinds.Kinds.guarded.Goals.{then-not-is-policy-via-then-not-is-policy, then-not-is-policy-via-else-not-is-policy+then-is-policy}
+use Rattle.policy.proofs.kinds.Kinds.guarded.Goals.{then-not-is_policy-via-then-not-is_policy, then-not-is_policy-via-else-not-is_policy+then-is_policy}
 
 pub returns-then-depth-lt2 : goal.returns-then-depth-lt2
 returns-then-depth-lt2 c = few_to_guard _ _ c.if-depth-lt2.true
 
-pub returns-then-not-is-policy : goal.returns-then-not-is-policy
-returns-then-not-is-policy c =
+pub returns-then-not-is_policy : goal.returns-then-not-is_policy
+returns-then-not-is_policy c =
     let r = c.args.self in
-    not_guardable r.items r.depth c.if-depth-lt2.false (elim c.then-not-is-policy.branch [
-      | then-not-is-policy-via-then-not-is-policy w ↦ and_left _ _ (sym w.if-not-is-policy.ensures)
-      | then-not-is-policy-via-else-not-is-policy+then-is-policy w ↦ and_right (is_policy (get_or r.items (r.depth - 1) Target)) _ (not_from_true _ (sym w.if-is-policy.ensures))
+    not_guardable r.items r.depth c.if-depth-lt2.false (elim c.then-not-is_policy.branch [
+      | then-not-is_policy-via-then-not-is_policy w ↦ and_left _ _ (sym w.if-not-is_policy.ensures)
+      | then-not-is_policy-via-else-not-is_policy+then-is_policy w ↦ and_right (is_policy (get_or r.items (r.depth - 1) Target)) _ (not_from_true _ (sym w.if-is_policy.ensures))
     ])
 
 pub returns : goal.returns

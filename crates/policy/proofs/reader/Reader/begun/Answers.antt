@@ -10,8 +10,8 @@ returns-then-place-size c =
     let here : length (bytes r) ≡ r.place = omega (arith, c.requires) in
     command_past (progress r) (bytes r) (place r) c.if-place-size.true ∙ ap (refused 4) here
 
-pub returns-in-default : goal.returns-in-default
-returns-in-default c = let r = c.args.self.now in command_unknown (progress r) (bytes r) (place r) c.if-place-size.false c.in-default.ensures
+pub returns-in_default : goal.returns-in_default
+returns-in_default c = let r = c.args.self.now in command_unknown (progress r) (bytes r) (place r) c.if-place-size.false c.in_default.ensures
 
 pub returns-then-part-self : goal.returns-then-part-self
 returns-then-part-self c = let r = c.args.self.now in command_earlier (progress r) (bytes r) (place r) c.in-Some.opcode c.if-place-size.false c.in-Some.ensures (omega arith)

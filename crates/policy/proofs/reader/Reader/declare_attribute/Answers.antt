@@ -1,15 +1,26 @@
 use Rattle.std.proofs.Common.{◌+◌, ◌≤◌, length, refl, arith}
 use Rattle.policy.specs.declared.reader.Declaration.{Declaration}
 use Rattle.policy.specs.Placed.{nothing}
-use Rattle.policy.specs.View.{context, declared_attribute}
+use Rattle.policy.specs.View.{declared_attribute}
 use Rattle.policy.proofs.Declared.{first_more, each_more}
 use Rattle.policy.proofs.reader.Reader.declare_attribute.Goals as goal
 
-pub invariant-of-self : goal.invariant-of-self
-invariant-of-self c =
+pub invariant_of-self : goal.invariant_of-self
+invariant_of-self c =
     let r = c.args.self.now in
     let named = each_more (λ (d : Declaration). d.name + 8 ≤ length r.file.now) r.attributes r.declared (record { start = r.pairs; count = c.args.count; name = r.place + 1 }) nothing (omega arith) r.named (omega (arith, c.requires.room)) in
-    (r.short, (r.within, (r.first, (omega arith, (omega arith, (omega arith, (omega arith, (named, (r.held, (r.digits, tt))))))))))
+    record {
+      short = r.short;
+      within = r.within;
+      first = r.first;
+      some = omega arith;
+      few = omega arith;
+      eight = omega arith;
+      items = omega arith;
+      named = named;
+      held = r.held;
+      digits = r.digits;
+    }
 
 pub returns : goal.returns
 returns c =

@@ -4,11 +4,11 @@ use Rattle.policy.specs.View.{own_digits}
 use Rattle.policy.proofs.Declared.{length_first}
 use Rattle.policy.proofs.reader.Reader.may_add.Goals as goal
 
-pub returns-then-are-digits : goal.returns-then-are-digits
-returns-then-are-digits c =
+pub returns-then-are_digits : goal.returns-then-are_digits
+returns-then-are_digits c =
     let r = c.args.self.now in
     let long = length_first (own_digits r.file.now) r.own r.operators (omega arith) in
     grind (arith, nat_tests)
 
-pub returns-else-are-digits : goal.returns-else-are-digits
-returns-else-are-digits c = grind (arith, nat_tests)
+pub returns-else-are_digits : goal.returns-else-are_digits
+returns-else-are_digits c = grind (arith, nat_tests)

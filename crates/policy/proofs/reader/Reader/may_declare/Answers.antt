@@ -11,8 +11,8 @@ named n f b e g = sym (ap (λ t. t && (f && b)) e ∙ ap (λ t. t && b) g)
 room : (count pairs : ℕ) → 1 ≤ count → pairs ≤ 48 → leb count (48 - pairs) ≡ (leb 1 count && leb (pairs + count) 48)
 room count pairs h w = grind (arith, nat_tests)
 
-pub returns-then-not-is-name : goal.returns-then-not-is-name
-returns-then-not-is-name c = sym (and_left _ _ (sym c.if-not-is-name.ensures))
+pub returns-then-not-is_name : goal.returns-then-not-is_name
+returns-then-not-is_name c = sym (and_left _ _ (sym c.if-not-is_name.ensures))
 
 pub returns-then-declares : goal.returns-then-declares
 returns-then-declares c = sym (and_right (is_name c.args.name.now) _ (and_left _ _ (not-true _ (sym c.if-declares.ensures))))

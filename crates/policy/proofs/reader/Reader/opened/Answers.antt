@@ -9,8 +9,8 @@ returns-then-self-gt0 c =
     let r = c.args.self.now in
     record { short = r.short c.if-self-gt0.true; within = r.within c.if-self-gt0.true; is = step_later (progress r) (bytes r) (place r) c.if-self-gt0.true }
 
-pub returns-then-self-gt-MOST-BYTES : goal.returns-then-self-gt-MOST-BYTES
-returns-then-self-gt-MOST-BYTES c = let r = c.args.self.now in step_too_long (progress r) (bytes r) (place r) c.if-self-gt0.false c.if-self-gt-MOST-BYTES.true
+pub returns-then-self-gt-MOST_BYTES : goal.returns-then-self-gt-MOST_BYTES
+returns-then-self-gt-MOST_BYTES c = let r = c.args.self.now in step_too_long (progress r) (bytes r) (place r) c.if-self-gt0.false c.if-self-gt-MOST_BYTES.true
 
 pub returns-in-Some : goal.returns-in-Some
 returns-in-Some c = let r = c.args.self.now in step_wrong_opening (progress r) (bytes r) (place r) _ c.if-self-gt0.false c.if-self-gt-MOST_BYTES.false c.in-Some.ensures

@@ -13,33 +13,33 @@ returns-then-not-allows c =
     let r = c.args.self.now in
     operand_refused (progress r) (bytes r) (place r) c.args.opcode (command c.args.taken) c.if-not-allows.ensures
 
-pub returns-in-default : goal.returns-in-default
-returns-in-default c =
+pub returns-in_default : goal.returns-in_default
+returns-in_default c =
     let r = c.args.self.now in
-    items_refused (progress r) (bytes r) (place r) c.args.opcode (command c.args.taken) c.if-not-allows.ensures c.in-default.ensures
+    items_refused (progress r) (bytes r) (place r) c.args.opcode (command c.args.taken) c.if-not-allows.ensures c.in_default.ensures
 
-pub returns-then-depth-gt-MOST-ITEMS : goal.returns-then-depth-gt-MOST-ITEMS
-returns-then-depth-gt-MOST-ITEMS c =
+pub returns-then-depth-gt-MOST_ITEMS : goal.returns-then-depth-gt-MOST_ITEMS
+returns-then-depth-gt-MOST_ITEMS c =
     let r = c.args.self.now in
     let k = c.in-Some.kinds in
     let l = length-stacked k.items k.depth in
     stack_full (progress r) (bytes r) (place r) c.args.opcode (command c.args.taken) (stack k) c.if-not-allows.ensures c.in-Some.ensures (omega (arith, l, c.depth.ensures))
 
-pub returns-then-not-is-end : goal.returns-then-not-is-end
-returns-then-not-is-end c =
+pub returns-then-not-is_end : goal.returns-then-not-is_end
+returns-then-not-is_end c =
     let r = c.args.self.now in
     let k = c.in-Some.kinds in
     record {
       allows = sym c.if-not-allows.ensures;
       few = omega (arith, c.depth.ensures);
-      is = taken_on (progress r) (bytes r) (place r) c.args.opcode (command c.args.taken) (stack k) c.if-not-allows.ensures c.in-Some.ensures (fits k _ c.depth.ensures c.if-depth-gt-MOST-ITEMS.false) (sym c.if-not-is-end.ensures);
+      is = taken_on (progress r) (bytes r) (place r) c.args.opcode (command c.args.taken) (stack k) c.if-not-allows.ensures c.in-Some.ensures (fits k _ c.depth.ensures c.if-depth-gt-MOST_ITEMS.false) (sym c.if-not-is_end.ensures);
     }
 
-pub returns-then-not-is-one-policy : goal.returns-then-not-is-one-policy
-returns-then-not-is-one-policy c =
+pub returns-then-not-is_one_policy : goal.returns-then-not-is_one_policy
+returns-then-not-is_one_policy c =
     let r = c.args.self.now in
     let k = c.in-Some.kinds in
-    wrong_end (progress r) (bytes r) (place r) c.args.opcode (command c.args.taken) (stack k) c.if-not-allows.ensures c.in-Some.ensures (fits k _ c.depth.ensures c.if-depth-gt-MOST-ITEMS.false) (sym c.if-not-is-end.ensures) (sym c.if-not-is-one-policy.ensures)
+    wrong_end (progress r) (bytes r) (place r) c.args.opcode (command c.args.taken) (stack k) c.if-not-allows.ensures c.in-Some.ensures (fits k _ c.depth.ensures c.if-depth-gt-MOST_ITEMS.false) (sym c.if-not-is_end.ensures) (sym c.if-not-is_one_policy.ensures)
 
 pub returns-then-place-self : goal.returns-then-place-self
 returns-then-place-self c =

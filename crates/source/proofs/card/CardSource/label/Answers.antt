@@ -1,7 +1,6 @@
-use Rattle.std.proofs.Common.{◌≡◌, ℕ, Bool, true, false, cond, ◌&&◌, ltb, is_some, None, Option, refl, ◌∙◌, arith}
+use Rattle.std.proofs.Common.{◌≡◌, ℕ, Bool, true, false, cond, ◌&&◌, ltb, is_some, None, refl, ◌∙◌, arith}
 use Rattle.source.specs.Meanings.{labelled}
 use Rattle.source.specs.Sets.{has}
-use Rattle.source.specs.Card.{card}
 use Rattle.source.proofs.card.CardSource.label.Goals as goal
 
 -- what is told has the card's label
