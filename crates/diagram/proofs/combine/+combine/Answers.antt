@@ -13,11 +13,11 @@ use Rattle.diagram.proofs.Rulings.{by_keys, key_kind, value_leaves}
 use Rattle.diagram.proofs.Steps.{high_ready, no_high, node_fits, at_end}
 use Rattle.diagram.proofs.Words.{length-stored}
 use Rattle.diagram.proofs.combine.+combine.Goals as goal
-use Rattle.diagram.proofs.combine.+combine.Goals.{After-min-v, After-key-key, After-high-of-bh, In-ok-two}
+use Rattle.diagram.proofs.combine.+combine.Goals.{After-min-v, After-key-key, After-high_of-bh, In_ok-two}
 
 -- the pair v is the first that a and b test
 first_is : (t : ℕ) (c : After-min-v t) → first (stored c.args.words.now c.args.fill.now) c.args.a c.args.b ≡ c.min-v.result
-first_is t c = omega (arith, c.min-v.ensures, c.top-of-ta.ensures c.args.fill.now c.requires.left, c.top-of-tb.ensures c.args.fill.now c.requires.right)
+first_is t c = omega (arith, c.min-v.ensures, c.top_of-ta.ensures c.args.fill.now c.requires.left, c.top_of-tb.ensures c.args.fill.now c.requires.right)
 
 here : (t : ℕ) (c : After-min-v t) → (c.args.a < mark (stored c.args.words.now c.args.fill.now)) × (c.args.b < mark (stored c.args.words.now c.args.fill.now))
 here t c =
@@ -58,26 +58,26 @@ returns-in-Some t c =
     let ran = told_of t (goal.at.returns-in-Some t c).After-min-v s c.in-Some.r e in
     record { told = e; kept = kept_still _ _ c.requires.chained c.requires.sound; means = (ran.below, ran.means); knows = c.requires.knows }
 
-goes : (t : ℕ) (c : After-high-of-bh t) → Goes (combines (value_of c.args.rule)) (stored c.args.words.now c.args.fill.now) (c.args.a, c.args.b) c.min-v.result (c.low-of-al.result, c.low-of-bl.result) (c.high-of-ah.result, c.high-of-bh.result)
+goes : (t : ℕ) (c : After-high_of-bh t) → Goes (combines (value_of c.args.rule)) (stored c.args.words.now c.args.fill.now) (c.args.a, c.args.b) c.min-v.result (c.low_of-al.result, c.low_of-bl.result) (c.high_of-ah.result, c.high_of-bh.result)
 goes t c =
-    let after = (goal.at.After-high-of-bh t c).After-min-v in
+    let after = (goal.at.After-high_of-bh t c).After-min-v in
     let f = c.args.fill.now in
     combine_node (value_of c.args.rule) (value_leaves c.args.rule) _ c.args.a c.args.b c.requires.sound (here t after).0 (here t after).1 _ _ _ _ _ (first_is t after) c.if-v-ge-PAIRS.false
-    (sym (c.low-of-al.ensures f c.requires.left)) (sym (c.low-of-bl.ensures f c.requires.right)) (sym (c.high-of-ah.ensures f c.requires.left)) (sym (c.high-of-bh.ensures f c.requires.right))
+    (sym (c.low_of-al.ensures f c.requires.left)) (sym (c.low_of-bl.ensures f c.requires.right)) (sym (c.high_of-ah.ensures f c.requires.left)) (sym (c.high_of-bh.ensures f c.requires.right))
 
 pub combine-requires : goal.combine-requires
 combine-requires t c =
-    let go = goes t (goal.at.combine-requires t c).After-high-of-bh in
+    let go = goes t (goal.at.combine-requires t c).After-high_of-bh in
     let m : 48 - first (stored c.args.words.now c.args.fill.now) c.args.a c.args.b ≡ t = c.decreases in
     let n = length-stored c.args.words.now c.args.fill.now in
     (omega (arith, go.at, go.small, go.low_later), (c.requires.chained, (c.requires.sound, (omega (arith, go.low_stands.0), (omega (arith, go.low_stands.1), (c.requires.few, c.requires.knows))))))
 
-pub returns-in-err-one : goal.returns-in-err-one
-returns-in-err-one t c =
-    let p = err_from_is_err_and c.from-residual.result c.from-residual.ensures.1 in
-    let told = c.in-err-one.ensures in
+pub returns-in_err-one : goal.returns-in_err-one
+returns-in_err-one t c =
+    let p = err_from_is_err_and c.from_residual.result c.from_residual.ensures.1 in
+    let told = c.in_err-one.ensures in
     record {
-      told = rw p.1 (low_full (combines (value_of c.args.rule)) (combines_so _ (value_leaves c.args.rule)) (capacity c.args.words.now) c.requires.sound (goes t (goal.at.returns-in-err-one t c).After-high-of-bh) told.told);
+      told = rw p.1 (low_full (combines (value_of c.args.rule)) (combines_so _ (value_leaves c.args.rule)) (capacity c.args.words.now) c.requires.sound (goes t (goal.at.returns-in_err-one t c).After-high_of-bh) told.told);
       kept = told.kept;
       means = rw p.1 tt;
       knows = told.knows;
@@ -85,20 +85,20 @@ returns-in-err-one t c =
 
 pub combine-requires-2 : goal.combine-requires-2
 combine-requires-2 t c =
-    let go = goes t (goal.at.combine-requires-2 t c).After-high-of-bh in
-    let told = c.in-ok-one.ensures in
-    let high = high_ready (combines (value_of c.args.rule)) (combines_so _ (value_leaves c.args.rule)) c.args.words.now c.args.fill.now c.requires.sound go c.combine.new.words c.combine.new.fill c.in-ok-one.one told.told in
+    let go = goes t (goal.at.combine-requires-2 t c).After-high_of-bh in
+    let told = c.in_ok-one.ensures in
+    let high = high_ready (combines (value_of c.args.rule)) (combines_so _ (value_leaves c.args.rule)) c.args.words.now c.args.fill.now c.requires.sound go c.combine.new.words c.combine.new.fill c.in_ok-one.one told.told in
     let m : 48 - first (stored c.args.words.now c.args.fill.now) c.args.a c.args.b ≡ t = c.decreases in
     let n = length-stored c.combine.new.words c.combine.new.fill in
     (omega (arith, go.at, go.small, high.1), (told.kept.chained, (told.kept.sound, (omega (arith, high.0.0), (omega (arith, high.0.1), (omega (arith, c.requires.few, c.combine.auto.memo), told.knows))))))
 
-pub returns-in-err-two : goal.returns-in-err-two
-returns-in-err-two t c =
-    let p = err_from_is_err_and c.from-residual-in-err-two.result c.from-residual-in-err-two.ensures.1 in
-    let told = c.in-ok-one.ensures in
-    let told₂ = c.in-err-two.ensures in
+pub returns-in_err-two : goal.returns-in_err-two
+returns-in_err-two t c =
+    let p = err_from_is_err_and c.from_residual-in_err-two.result c.from_residual-in_err-two.ensures.1 in
+    let told = c.in_ok-one.ensures in
+    let told₂ = c.in_err-two.ensures in
     record {
-      told = rw p.1 (no_high (combines (value_of c.args.rule)) (combines_so _ (value_leaves c.args.rule)) c.args.words.now c.args.fill.now c.requires.sound (goes t (goal.at.returns-in-err-two t c).After-high-of-bh) c.combine.new.words c.combine.new.fill c.in-ok-one.one told.told c.combine.auto.words told₂.told);
+      told = rw p.1 (no_high (combines (value_of c.args.rule)) (combines_so _ (value_leaves c.args.rule)) c.args.words.now c.args.fill.now c.requires.sound (goes t (goal.at.returns-in_err-two t c).After-high_of-bh) c.combine.new.words c.combine.new.fill c.in_ok-one.one told.told c.combine.auto.words told₂.told);
       kept = kept_trans told.kept told₂.kept;
       means = rw p.1 tt;
       knows = told₂.knows;
@@ -106,45 +106,45 @@ returns-in-err-two t c =
 
 pub make-requires : goal.make-requires
 make-requires t c =
-    let told₂ = c.in-ok-two.ensures in
+    let told₂ = c.in_ok-two.ensures in
     record {
       chained = told₂.kept.chained;
       sound = told₂.kept.sound;
-      fits = node_fits (combines (value_of c.args.rule)) (combines_so _ (value_leaves c.args.rule)) c.args.words.now c.args.fill.now c.requires.sound (goes t (goal.at.make-requires t c).After-high-of-bh) c.combine.new.words c.combine.new.fill c.in-ok-one.one c.in-ok-one.ensures.told c.combine-2.new.words c.combine-2.new.fill c.in-ok-two.two told₂.told;
+      fits = node_fits (combines (value_of c.args.rule)) (combines_so _ (value_leaves c.args.rule)) c.args.words.now c.args.fill.now c.requires.sound (goes t (goal.at.make-requires t c).After-high_of-bh) c.combine.new.words c.combine.new.fill c.in_ok-one.one c.in_ok-one.ensures.told c.combine-2.new.words c.combine-2.new.fill c.in_ok-two.two told₂.told;
     }
 
 -- up to the node, the two calls are done
-ready : (t : ℕ) (c : In-ok-two t) → combined (capacity c.args.words.now) (stored c.args.words.now c.args.fill.now) (value_of c.args.rule) c.args.a c.args.b ≡ made (capacity c.combine-2.new.words) (stored c.combine-2.new.words c.combine-2.new.fill) (node_of c.min-v.result c.in-ok-one.one c.in-ok-two.two)
-ready t c = at_end (combines (value_of c.args.rule)) (combines_so _ (value_leaves c.args.rule)) c.args.words.now c.args.fill.now c.requires.sound (goes t (goal.at.In-ok-two t c).After-high-of-bh) c.combine.new.words c.combine.new.fill c.in-ok-one.one c.in-ok-one.ensures.told c.combine-2.new.words c.combine-2.new.fill c.in-ok-two.two c.in-ok-two.ensures.told c.combine.auto.words c.combine-2.auto.words
+ready : (t : ℕ) (c : In_ok-two t) → combined (capacity c.args.words.now) (stored c.args.words.now c.args.fill.now) (value_of c.args.rule) c.args.a c.args.b ≡ made (capacity c.combine-2.new.words) (stored c.combine-2.new.words c.combine-2.new.fill) (node_of c.min-v.result c.in_ok-one.one c.in_ok-two.two)
+ready t c = at_end (combines (value_of c.args.rule)) (combines_so _ (value_leaves c.args.rule)) c.args.words.now c.args.fill.now c.requires.sound (goes t (goal.at.In_ok-two t c).After-high_of-bh) c.combine.new.words c.combine.new.fill c.in_ok-one.one c.in_ok-one.ensures.told c.combine-2.new.words c.combine-2.new.fill c.in_ok-two.two c.in_ok-two.ensures.told c.combine.auto.words c.combine-2.auto.words
 
-pub returns-in-err-r : goal.returns-in-err-r
-returns-in-err-r t c =
-    let p = err_from_is_err_and c.from-residual-in-err-r.result c.from-residual-in-err-r.ensures.1 in
-    let told = c.in-err-r.ensures in
+pub returns-in_err-r : goal.returns-in_err-r
+returns-in_err-r t c =
+    let p = err_from_is_err_and c.from_residual-in_err-r.result c.from_residual-in_err-r.ensures.1 in
+    let told = c.in_err-r.ensures in
     record {
-      told = rw p.1 (ready t (goal.at.returns-in-err-r t c).In-ok-two ∙ told.told);
-      kept = kept_trans c.in-ok-one.ensures.kept (kept_trans c.in-ok-two.ensures.kept told.kept);
+      told = rw p.1 (ready t (goal.at.returns-in_err-r t c).In_ok-two ∙ told.told);
+      kept = kept_trans c.in_ok-one.ensures.kept (kept_trans c.in_ok-two.ensures.kept told.kept);
       means = rw p.1 tt;
-      knows = remembers_grown _ _ c.combine-2.new.memo told.kept.sound told.kept.grown c.in-ok-two.ensures.knows;
+      knows = remembers_grown _ _ c.combine-2.new.memo told.kept.sound told.kept.grown c.in_ok-two.ensures.knows;
     }
 
 pub returns : goal.returns
 returns t c =
     let after = (goal.at.returns t c).After-min-v in
     let with-key = (goal.at.returns t c).After-key-key in
-    let told = c.in-ok-r.ensures in
+    let told = c.in_ok-r.ensures in
     let s = stored c.args.words.now c.args.fill.now in
     let s₂ = stored c.combine-2.new.words c.combine-2.new.fill in
     let s₃ = stored c.make.new.words c.make.new.fill in
     let key = c.key-key.result in
-    let whole : combined (capacity c.args.words.now) s (value_of c.args.rule) c.args.a c.args.b ≡ done s₃ c.in-ok-r.r = ready t (goal.at.returns t c).In-ok-two ∙ told.told in
-    let ran = told_of t after s₃ c.in-ok-r.r whole in
-    let ran-key = subst (λ f. Ran (combines f) 48 s (c.args.a, c.args.b) s₃ c.in-ok-r.r) (sym (turned t with-key)) ran in
-    let new = known_combined key c.args.a c.args.b c.in-ok-r.r c.key-key.ensures.below (no_pair t with-key) (here t after).0 (here t after).1 ran-key in
-    let old = remembers_grown s₂ s₃ c.combine-2.new.memo told.kept.sound told.kept.grown c.in-ok-two.ensures.knows in
+    let whole : combined (capacity c.args.words.now) s (value_of c.args.rule) c.args.a c.args.b ≡ done s₃ c.in_ok-r.r = ready t (goal.at.returns t c).In_ok-two ∙ told.told in
+    let ran = told_of t after s₃ c.in_ok-r.r whole in
+    let ran-key = subst (λ f. Ran (combines f) 48 s (c.args.a, c.args.b) s₃ c.in_ok-r.r) (sym (turned t with-key)) ran in
+    let new = known_combined key c.args.a c.args.b c.in_ok-r.r c.key-key.ensures.below (no_pair t with-key) (here t after).0 (here t after).1 ran-key in
+    let old = remembers_grown s₂ s₃ c.combine-2.new.memo told.kept.sound told.kept.grown c.in_ok-two.ensures.knows in
     record {
       told = whole;
-      kept = kept_trans c.in-ok-one.ensures.kept (kept_trans c.in-ok-two.ensures.kept told.kept);
+      kept = kept_trans c.in_ok-one.ensures.kept (kept_trans c.in_ok-two.ensures.kept told.kept);
       means = (ran.below, ran.means);
-      knows = subst (Remembers s₃) (sym c.note.ensures) (noted_known s₃ c.combine-2.new.memo key c.args.a c.args.b c.in-ok-r.r old new);
+      knows = subst (Remembers s₃) (sym c.note.ensures) (noted_known s₃ c.combine-2.new.memo key c.args.a c.args.b c.in_ok-r.r old new);
     }

@@ -5,8 +5,8 @@ use Rattle.diagram.proofs.memo.recall.Goals as goal
 pub returns-then-entries-eq0 : goal.returns-then-entries-eq0
 returns-then-entries-eq0 c = recalled_nowhere _ _ _ _ c.if-entries-eq0.true
 
-pub returns-then-is-entry : goal.returns-then-is-entry
-returns-then-is-entry c = recalled_here _ _ _ _ c.if-entries-eq0.false _ c.spread-k.ensures.is (sym c.if-is-entry.ensures)
+pub returns-then-is_entry : goal.returns-then-is_entry
+returns-then-is_entry c = recalled_here _ _ _ _ c.if-entries-eq0.false _ c.spread-k.ensures.is (sym c.if-is_entry.ensures)
 
 pub returns : goal.returns
-returns c = recalled_other _ _ _ _ c.if-entries-eq0.false _ c.spread-k.ensures.is (sym c.if-is-entry.ensures)
+returns c = recalled_other _ _ _ _ c.if-entries-eq0.false _ c.spread-k.ensures.is (sym c.if-is_entry.ensures)

@@ -5,16 +5,16 @@ use Rattle.diagram.proofs.Kept.{kept_long}
 use Rattle.diagram.proofs.Words.{length-stored}
 use Rattle.diagram.proofs.probe.combines_to.Goals as goal
 
-pub roll-back-requires : goal.roll-back-requires
-roll-back-requires c = (c.combine-built.ensures.kept.chained, kept_long c.combine-built.ensures.kept)
+pub roll_back-requires : goal.roll_back-requires
+roll_back-requires c = (c.combine-built.ensures.kept.chained, kept_long c.combine-built.ensures.kept)
 
 pub returns : goal.returns
 returns c =
-    let told = c.in-ok-r.ensures in
+    let told = c.in_ok-r.ensures in
     let kept = c.combine-built.ensures.kept in
-    let back = c.roll-back.ensures in
+    let back = c.roll_back.ensures in
     record {
-      is = compared c.in-ok-r.r c.args.c _ kept.sound kept.grown told.told told.means.0 told.means.1 (omega (arith, c.requires.other, length-stored c.args.words.now c.args.fill.now));
+      is = compared c.in_ok-r.r c.args.c _ kept.sound kept.grown told.told told.means.0 told.means.1 (omega (arith, c.requires.other, length-stored c.args.words.now c.args.fill.now));
       chained = back.chained;
       fill = c.drop-mark-2.ensures;
       stored = back.stored ∙ kept.olds;

@@ -6,11 +6,11 @@ use Rattle.diagram.proofs.rule.number.Goals as goal
 pub loop-i-init : goal.loop-i-init
 loop-i-init c = (omega arith, number_none c.args.entries.now)
 
-pub overflow-mul-n : goal.overflow-mul-n
-overflow-mul-n c = omega (arith, c.loop-i.invariant.1, number_rest c.args.entries.now c.loop-i.i 8 (omega arith))
+pub overflow_mul-n : goal.overflow_mul-n
+overflow_mul-n c = omega (arith, c.loop-i.invariant.1, number_rest c.args.entries.now c.loop-i.i 8 (omega arith))
 
-pub overflow-add-n : goal.overflow-add-n
-overflow-add-n c = omega (arith, c.loop-i.invariant.1, number_rest c.args.entries.now c.loop-i.i 8 (omega arith))
+pub overflow_add-n : goal.overflow_add-n
+overflow_add-n c = omega (arith, c.loop-i.invariant.1, number_rest c.args.entries.now c.loop-i.i 8 (omega arith))
 
 pub loop-i-preserved : goal.loop-i-preserved
 loop-i-preserved c =

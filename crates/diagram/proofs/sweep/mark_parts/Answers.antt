@@ -5,23 +5,23 @@ use Rattle.diagram.specs.Words.{node_at}
 use Rattle.diagram.proofs.Counts.{older_parts}
 use Rattle.diagram.proofs.Marks.{Parted, only_node, marked_yes, marked_not, parted_none, parted_pass, parted_more}
 use Rattle.diagram.proofs.sweep.mark_parts.Goals as goal
-use Rattle.diagram.proofs.sweep.mark_parts.Goals.{After-node-at-node}
+use Rattle.diagram.proofs.sweep.mark_parts.Goals.{After-node_at-node}
 
 -- the node is the one that stood there at the start
-node : (c : After-node-at-node) → c.node-at-node.result ≡ node_at c.args.words.now (c.loop-k.k - 1)
-node c = c.node-at-node.ensures ∙ only_node c.args.words.now c.loop-k.words c.loop-k.invariant.only (c.loop-k.k - 1)
+node : (c : After-node_at-node) → c.node_at-node.result ≡ node_at c.args.words.now (c.loop-k.k - 1)
+node c = c.node_at-node.ensures ∙ only_node c.args.words.now c.loop-k.words c.loop-k.invariant.only (c.loop-k.k - 1)
 
-older : (c : After-node-at-node) → (c.node-at-node.result.low < 8 + c.args.fill) × (c.node-at-node.result.high < 8 + c.args.fill)
+older : (c : After-node_at-node) → (c.node_at-node.result.low < 8 + c.args.fill) × (c.node_at-node.result.high < 8 + c.args.fill)
 older c =
     let k : ℕ = c.loop-k.k - 1 in
     let parts = older_parts c.args.words.now c.args.fill k (omega arith) c.requires.sound in
     subst (λ (m : Node). (m.low < 8 + c.args.fill) × (m.high < 8 + c.args.fill)) (sym (node c)) (omega (arith, parts.0), omega (arith, parts.1))
 
-pub set-mark-requires : goal.set-mark-requires
-set-mark-requires c = let parts = older (goal.at.set-mark-requires c).After-node-at-node in omega (arith, parts.0, parts.1)
+pub set_mark-requires : goal.set_mark-requires
+set_mark-requires c = let parts = older (goal.at.set_mark-requires c).After-node_at-node in omega (arith, parts.0, parts.1)
 
-pub set-mark-requires-then-words-k-ne0 : goal.set-mark-requires-then-words-k-ne0
-set-mark-requires-then-words-k-ne0 c = let parts = older (goal.at.set-mark-requires-then-words-k-ne0 c).After-node-at-node in omega (arith, parts.0, parts.1)
+pub set_mark-requires-then-words-k-ne0 : goal.set_mark-requires-then-words-k-ne0
+set_mark-requires-then-words-k-ne0 c = let parts = older (goal.at.set_mark-requires-then-words-k-ne0 c).After-node_at-node in omega (arith, parts.0, parts.1)
 
 pub loop-k-preserved-then-words-k-ne0 : goal.loop-k-preserved-then-words-k-ne0
 loop-k-preserved-then-words-k-ne0 c =
@@ -29,10 +29,10 @@ loop-k-preserved-then-words-k-ne0 c =
     let vs = c.loop-k.words in
     let k : ℕ = c.loop-k.k - 1 in
     let up : c.loop-k.k ≡ k + 1 = omega arith in
-    let at = (goal.at.loop-k-preserved-then-words-k-ne0 c).After-node-at-node in
+    let at = (goal.at.loop-k-preserved-then-words-k-ne0 c).After-node_at-node in
     let same = node at in
-    let is : c.set-mark-then-words-k-ne0.new.words ≡ marking (marking vs (node_at ws k).low) (node_at ws k).high =
-    c.set-mark-then-words-k-ne0.ensures ∙ (λ i. marking (c.set-mark.ensures i) c.node-at-node.result.high) ∙ (λ i. marking (marking vs (same i).low) (same i).high) in
+    let is : c.set_mark-then-words-k-ne0.new.words ≡ marking (marking vs (node_at ws k).low) (node_at ws k).high =
+    c.set_mark-then-words-k-ne0.ensures ∙ (λ i. marking (c.set_mark.ensures i) c.node_at-node.result.high) ∙ (λ i. marking (marking vs (same i).low) (same i).high) in
     let parts = older_parts ws c.args.fill k (omega arith) c.requires.sound in
     subst (λ us. Parted ws c.args.fill us k) (sym is)
     (parted_more ws c.args.fill vs k (omega arith) (subst (Parted ws c.args.fill vs) up c.loop-k.invariant) (marked_yes vs k c.if-words-k-ne0.true) (omega (arith, parts.0)) (omega (arith, parts.1)))

@@ -10,7 +10,7 @@ loop-i-preserved c =
     let roots = c.args.roots.now in
     let i = c.loop-i.i in
     elim c.if-r-end.branch [
-      | then-r-end w ↦ subst (λ vs. Rooted ws fill roots vs (i + 1)) (sym (w.words-is ∙ w.set-mark.ensures)) (rooted_more ws fill roots c.loop-i.words i c.loop-i.invariant c.loop-i-test.true w.if-r-end.true (omega arith))
+      | then-r-end w ↦ subst (λ vs. Rooted ws fill roots vs (i + 1)) (sym (w.words-is ∙ w.set_mark.ensures)) (rooted_more ws fill roots c.loop-i.words i c.loop-i.invariant c.loop-i-test.true w.if-r-end.true (omega arith))
       | else-r-end w ↦ subst (λ vs. Rooted ws fill roots vs (i + 1)) (sym w.words-is) (rooted_pass ws fill roots c.loop-i.words i c.loop-i.invariant c.loop-i-test.true w.if-r-end.false)
     ]
 

@@ -5,38 +5,38 @@ use Rattle.diagram.specs.Words.{stored}
 use Rattle.diagram.proofs.Marks.{Reached, only_node, empty_chains, reached_from, reached_closed, reached_packed, reached_roots}
 use Rattle.diagram.proofs.Words.{stored_ext}
 use Rattle.diagram.proofs.sweep.sweep.Goals as goal
-use Rattle.diagram.proofs.sweep.sweep.Goals.{After-mark-roots, After-mark-parts}
+use Rattle.diagram.proofs.sweep.sweep.Goals.{After-mark_roots, After-mark_parts}
 
 -- the nodes stand as at the start
-nodes : (c : After-mark-roots) → stored c.mark-roots.new.words c.args.fill ≡ stored c.args.words.now c.args.fill
-nodes c = stored_ext _ _ c.args.fill (λ k h. only_node _ _ c.mark-roots.ensures.only k ∙ c.wipe.ensures.nodes k)
+nodes : (c : After-mark_roots) → stored c.mark_roots.new.words c.args.fill ≡ stored c.args.words.now c.args.fill
+nodes c = stored_ext _ _ c.args.fill (λ k h. only_node _ _ c.mark_roots.ensures.only k ∙ c.wipe.ensures.nodes k)
 
-pub mark-parts-requires : goal.mark-parts-requires
-mark-parts-requires c = record { within = omega arith; sound = subst Sound (sym (nodes (goal.at.mark-parts-requires c).After-mark-roots)) c.requires.sound }
+pub mark_parts-requires : goal.mark_parts-requires
+mark_parts-requires c = record { within = omega arith; sound = subst Sound (sym (nodes (goal.at.mark_parts-requires c).After-mark_roots)) c.requires.sound }
 
-all : (c : After-mark-parts) → Reached c.mark-roots.new.words c.args.fill c.args.roots.now c.mark-parts.new.words
-all c = reached_from c.args.fill c.args.roots.now c.wipe.new.words c.mark-roots.new.words c.mark-parts.new.words c.wipe.ensures.unmarked c.mark-roots.ensures.is c.mark-parts.ensures.only c.mark-parts.ensures.is
+all : (c : After-mark_parts) → Reached c.mark_roots.new.words c.args.fill c.args.roots.now c.mark_parts.new.words
+all c = reached_from c.args.fill c.args.roots.now c.wipe.new.words c.mark_roots.new.words c.mark_parts.new.words c.wipe.ensures.unmarked c.mark_roots.ensures.is c.mark_parts.ensures.only c.mark_parts.ensures.is
 
-sound : (c : After-mark-parts) → Sound (stored c.mark-parts.new.words c.args.fill)
-sound c = subst Sound (sym ((all c).nodes ∙ nodes (goal.at.After-mark-parts c).After-mark-roots)) c.requires.sound
+sound : (c : After-mark_parts) → Sound (stored c.mark_parts.new.words c.args.fill)
+sound c = subst Sound (sym ((all c).nodes ∙ nodes (goal.at.After-mark_parts c).After-mark_roots)) c.requires.sound
 
 pub pack-kept-requires : goal.pack-kept-requires
 pack-kept-requires c =
-    let at = (goal.at.pack-kept-requires c).After-mark-parts in
+    let at = (goal.at.pack-kept-requires c).After-mark_parts in
     record { few = omega arith; within = omega arith; sound = sound at; closed = reached_closed _ _ _ _ (all at) (sound at) }
 
 pub link-requires : goal.link-requires
 link-requires c = record {
   chained = empty_chains c.wipe.new.words c.pack-kept.new.words (omega arith)
-      (λ b. c.pack-kept.ensures.heads b ∙ c.mark-parts.ensures.only _ (λ e. omega arith) ∙ c.mark-roots.ensures.only _ (λ e. omega arith)) c.wipe.ensures.chained;
+      (λ b. c.pack-kept.ensures.heads b ∙ c.mark_parts.ensures.only _ (λ e. omega arith) ∙ c.mark_roots.ensures.only _ (λ e. omega arith)) c.wipe.ensures.chained;
   within = omega (arith, c.pack-kept.ensures.fewer);
 }
 
 pub returns : goal.returns
 returns c =
-    let at = (goal.at.returns c).After-mark-parts in
+    let at = (goal.at.returns c).After-mark_parts in
     let roots = c.args.roots.now in
-    let was = nodes (goal.at.returns c).After-mark-roots in
+    let was = nodes (goal.at.returns c).After-mark_roots in
     record {
       chained = c.link.ensures.chained;
       store = c.link.ensures.stored ∙ c.pack-kept.ensures.store ∙ ap (λ (w : Swept). w.store) (reached_packed _ _ _ _ (all at) (sound at)) ∙ ap (λ s. (swept s (wanted roots)).store) was;

@@ -11,8 +11,8 @@ unfolding bucket_at
 loop-k-preserved c =
     let ws = c.args.words.now in
     let k = c.loop-k.k in
-    let is : c.bucket-of-b.result ≡ bucket_at ws k = c.bucket-of-b.ensures.is ∙ ap (bucket (capacity ws)) (c.node-at.ensures ∙ c.loop-k.invariant.nodes k) in
-    wiped_more ws c.loop-k.words k c.bucket-of-b.result (omega (arith, c.requires.within)) (omega (arith, c.bucket-of-b.ensures.below)) is c.loop-k.invariant
+    let is : c.bucket_of-b.result ≡ bucket_at ws k = c.bucket_of-b.ensures.is ∙ ap (bucket (capacity ws)) (c.node_at.ensures ∙ c.loop-k.invariant.nodes k) in
+    wiped_more ws c.loop-k.words k c.bucket_of-b.result (omega (arith, c.requires.within)) (omega (arith, c.bucket_of-b.ensures.below)) is c.loop-k.invariant
 
 pub returns : goal.returns
 returns c =

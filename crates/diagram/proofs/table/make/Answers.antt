@@ -22,7 +22,7 @@ returns-in-Some c = record { told = made_found _ _ _ c.if-node.false _ (sym c.in
 
 pub returns-then-k-n : goal.returns-then-k-n
 returns-then-k-n c = record {
-  told = made_full _ _ _ c.if-node.false (sym c.in-default.ensures) (omega (arith, length-stored c.args.words.now c.args.fill.now));
+  told = made_full _ _ _ c.if-node.false (sym c.in_default.ensures) (omega (arith, length-stored c.args.words.now c.args.fill.now));
   kept = kept_still _ _ c.requires.chained c.requires.sound;
   alike = λ e. refl;
 }
@@ -32,7 +32,7 @@ returns c =
     let ws = c.args.words.now in
     let f = c.args.fill.now in
     let long = length-stored ws f in
-    let new = made_new (capacity ws) (stored ws f) c.args.node c.if-node.false (sym c.in-default.ensures) (omega (arith, long)) in
+    let new = made_new (capacity ws) (stored ws f) c.args.node c.if-node.false (sym c.in_default.ensures) (omega (arith, long)) in
     let now = sym c.add.ensures.stored in
     record {
       told = new ∙ (λ i. done (now i) (8 + long i));

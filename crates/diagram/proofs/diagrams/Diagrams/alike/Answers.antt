@@ -6,12 +6,12 @@ use Rattle.diagram.proofs.Canonical.{canonicity}
 use Rattle.diagram.proofs.Once.{sound_of}
 use Rattle.diagram.proofs.diagrams.Diagrams.alike.Goals as goal
 
-pub returns-then-not-both-stand : goal.returns-then-not-both-stand
-returns-then-not-both-stand c = (refl, sym c.if-not-both-stand.ensures)
+pub returns-then-not-both_stand : goal.returns-then-not-both_stand
+returns-then-not-both_stand c = (refl, sym c.if-not-both_stand.ensures)
 
 pub returns : goal.returns
 returns c =
     let s = store_of c.args.self.now in
-    let known = known_parts s c.args.a c.args.b (sym c.if-not-both-stand.ensures) in
+    let known = known_parts s c.args.a c.args.b (sym c.if-not-both_stand.ensures) in
     let one = canonicity s (sound_of s c.args.self.now.sound) c.args.a c.args.b known.0 known.1 in
-    (sym c.if-not-both-stand.ensures, ((λ e. one.0 (eqb-true _ _ e)), (λ alike. eq-eqb _ _ (one.1 alike))))
+    (sym c.if-not-both_stand.ensures, ((λ e. one.0 (eqb-true _ _ e)), (λ alike. eq-eqb _ _ (one.1 alike))))

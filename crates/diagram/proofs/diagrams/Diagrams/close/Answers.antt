@@ -46,12 +46,20 @@ left g c =
     settled _ (Means g c old) old.words.now old.fill (sound_of _ old.sound) c.close-built.new.words c.close-built.new.fill c.close-built.new.memo c.settle-answer.new.words c.settle-answer.new.fill c.settle-answer.new.memo c.close-built.result c.settle-answer.result
     built.told built.kept built.means built.knows c.settle-answer.ensures
 
-pub invariant-of-self : goal.invariant-of-self
-invariant-of-self g c =
+pub invariant_of-self : goal.invariant_of-self
+invariant_of-self g c =
     let old = c.take-words.result in
-    let l = left g (goal.at.invariant-of-self g c).After-settle-answer in
+    let l = left g (goal.at.invariant_of-self g c).After-settle-answer in
     let ch = l.kept.chained in
-    (ch.few, (ch.within, (ch.heads, (ch.links, (∣ l.kept.sound ∣₁, (omega (arith, old.short, c.close-built.auto.memo, c.settle-answer.auto.memo), (∣ l.knows ∣₁, tt)))))))
+    record {
+      few = ch.few;
+      within = ch.within;
+      heads = ch.heads;
+      links = ch.links;
+      sound = ∣ l.kept.sound ∣₁;
+      short = omega (arith, old.short, c.close-built.auto.memo, c.settle-answer.auto.memo);
+      knows = ∣ l.knows ∣₁;
+    }
 
 pub returns : goal.returns
 returns g c =

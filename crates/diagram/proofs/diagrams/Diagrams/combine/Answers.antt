@@ -13,14 +13,14 @@ use Rattle.diagram.proofs.Words.{length-stored}
 use Rattle.diagram.proofs.diagrams.Diagrams.combine.Goals as goal
 use Rattle.diagram.proofs.diagrams.Diagrams.combine.Goals.{After-settle-answer}
 
-pub returns-then-not-both-stand : goal.returns-then-not-both-stand
-returns-then-not-both-stand c = record { is = (sym c.if-not-both-stand.ensures, refl); room = refl; grown = still; means = tt }
+pub returns-then-not-both_stand : goal.returns-then-not-both_stand
+returns-then-not-both_stand c = record { is = (sym c.if-not-both_stand.ensures, refl); room = refl; grown = still; means = tt }
 
 pub combine-built-requires : goal.combine-built-requires
 combine-built-requires c =
     let old = c.take-words.result in
     let long = length-stored old.words.now old.fill in
-    let known = known_parts (store_of c.args.self.now) c.args.a c.args.b (sym c.if-not-both-stand.ensures) in
+    let known = known_parts (store_of c.args.self.now) c.args.a c.args.b (sym c.if-not-both_stand.ensures) in
     let left : c.args.a < mark (store_of old) = subst (λ d. c.args.a < mark (store_of d)) (sym c.take-words.ensures) known.0 in
     let right : c.args.b < mark (store_of old) = subst (λ d. c.args.b < mark (store_of d)) (sym c.take-words.ensures) known.1 in
     record {
@@ -49,15 +49,23 @@ left c =
     settled _ (Means c old) old.words.now old.fill (sound_of _ old.sound) c.combine-built.new.words c.combine-built.new.fill c.combine-built.new.memo c.settle-answer.new.words c.settle-answer.new.fill c.settle-answer.new.memo c.combine-built.result c.settle-answer.result
     built.told built.kept built.means built.knows c.settle-answer.ensures
 
-pub invariant-of-self : goal.invariant-of-self
-invariant-of-self c =
+pub invariant_of-self : goal.invariant_of-self
+invariant_of-self c =
     let old = c.take-words.result in
-    let l = left (goal.at.invariant-of-self c).After-settle-answer in
+    let l = left (goal.at.invariant_of-self c).After-settle-answer in
     let ch = l.kept.chained in
-    (ch.few, (ch.within, (ch.heads, (ch.links, (∣ l.kept.sound ∣₁, (omega (arith, old.short, c.combine-built.auto.memo, c.settle-answer.auto.memo), (∣ l.knows ∣₁, tt)))))))
+    record {
+      few = ch.few;
+      within = ch.within;
+      heads = ch.heads;
+      links = ch.links;
+      sound = ∣ l.kept.sound ∣₁;
+      short = omega (arith, old.short, c.combine-built.auto.memo, c.settle-answer.auto.memo);
+      knows = ∣ l.knows ∣₁;
+    }
 
 pub returns : goal.returns
 returns c =
     let at = (goal.at.returns c).After-settle-answer in
-    let k = called (λ d. stands (store_of d) c.args.a && stands (store_of d) c.args.b) (λ d. true) (outcome at) (Means at) c.settle-answer.new.words c.settle-answer.new.fill c.settle-answer.new.memo c.settle-answer.result c.take-words.result c.args.self.now c.take-words.ensures (sym c.if-not-both-stand.ensures) refl (left at) in
+    let k = called (λ d. stands (store_of d) c.args.a && stands (store_of d) c.args.b) (λ d. true) (outcome at) (Means at) c.settle-answer.new.words c.settle-answer.new.fill c.settle-answer.new.memo c.settle-answer.result c.take-words.result c.args.self.now c.take-words.ensures (sym c.if-not-both_stand.ensures) refl (left at) in
     record { is = k.is; room = omega (arith, c.settle-answer.auto.words, c.combine-built.auto.words, ap room_of c.take-words.ensures); grown = k.grown; means = k.means }

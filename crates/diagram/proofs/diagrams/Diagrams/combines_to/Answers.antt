@@ -10,18 +10,18 @@ use Rattle.diagram.proofs.Once.{sound_of, remembers_of}
 use Rattle.diagram.proofs.Words.{length-stored}
 use Rattle.diagram.proofs.diagrams.Diagrams.combines_to.Goals as goal
 
-pub returns-then-not-both-stand : goal.returns-then-not-both-stand
-returns-then-not-both-stand c = record { is = and_left _ _ (sym c.if-not-both-stand.ensures); room = refl; same = refl }
+pub returns-then-not-both_stand : goal.returns-then-not-both_stand
+returns-then-not-both_stand c = record { is = and_left _ _ (sym c.if-not-both_stand.ensures); room = refl; same = refl }
 
 pub returns-then-not-stands : goal.returns-then-not-stands
 returns-then-not-stands c = record { is = and_right _ _ (sym c.if-not-stands.ensures); room = refl; same = refl }
 
-pub combines-to-told-requires : goal.combines-to-told-requires
-combines-to-told-requires c =
+pub combines_to-told-requires : goal.combines_to-told-requires
+combines_to-told-requires c =
     let old = c.take-words.result in
     let is = sym c.take-words.ensures in
     let long = length-stored old.words.now old.fill in
-    let known = known_parts (store_of c.args.self.now) c.args.a c.args.b (sym c.if-not-both-stand.ensures) in
+    let known = known_parts (store_of c.args.self.now) c.args.a c.args.b (sym c.if-not-both_stand.ensures) in
     let left : c.args.a < mark (store_of old) = subst (λ d. c.args.a < mark (store_of d)) is known.0 in
     let right : c.args.b < mark (store_of old) = subst (λ d. c.args.b < mark (store_of d)) is known.1 in
     let other : c.args.c < mark (store_of old) = subst (λ d. c.args.c < mark (store_of d)) is (ltb-true _ _ (sym c.if-not-stands.ensures)) in
@@ -35,11 +35,19 @@ combines-to-told-requires c =
       knows = remembers_of _ _ old.knows;
     }
 
-pub invariant-of-self : goal.invariant-of-self
-invariant-of-self c =
+pub invariant_of-self : goal.invariant_of-self
+invariant_of-self c =
     let old = c.take-words.result in
-    let told = c.combines-to-told.ensures in
-    let ws = c.combines-to-told.new.words in
-    let ch : Chained ws c.combines-to-told.new.fill = subst (Chained ws) (sym told.fill) told.chained in
-    let so : Sound (stored ws c.combines-to-told.new.fill) = subst Sound (sym (ap (stored ws) told.fill ∙ told.stored)) (sound_of _ old.sound) in
-    (ch.few, (ch.within, (ch.heads, (ch.links, (∣ so ∣₁, (omega (arith, old.short, c.combines-to-told.auto.memo), (∣ remembers_none _ _ told.none ∣₁, tt)))))))
+    let told = c.combines_to-told.ensures in
+    let ws = c.combines_to-told.new.words in
+    let ch : Chained ws c.combines_to-told.new.fill = subst (Chained ws) (sym told.fill) told.chained in
+    let so : Sound (stored ws c.combines_to-told.new.fill) = subst Sound (sym (ap (stored ws) told.fill ∙ told.stored)) (sound_of _ old.sound) in
+    record {
+      few = ch.few;
+      within = ch.within;
+      heads = ch.heads;
+      links = ch.links;
+      sound = ∣ so ∣₁;
+      short = omega (arith, old.short, c.combines_to-told.auto.memo);
+      knows = ∣ remembers_none _ _ told.none ∣₁;
+    }

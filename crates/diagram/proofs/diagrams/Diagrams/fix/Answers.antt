@@ -49,12 +49,20 @@ left c =
     settled _ (Means c old) old.words.now old.fill (sound_of _ old.sound) c.fix-built.new.words c.fix-built.new.fill c.fix-built.new.memo c.settle-answer.new.words c.settle-answer.new.fill c.settle-answer.new.memo c.fix-built.result c.settle-answer.result
     built.told built.kept built.means built.knows c.settle-answer.ensures
 
-pub invariant-of-self : goal.invariant-of-self
-invariant-of-self c =
+pub invariant_of-self : goal.invariant_of-self
+invariant_of-self c =
     let old = c.take-words.result in
-    let l = left (goal.at.invariant-of-self c).After-settle-answer in
+    let l = left (goal.at.invariant_of-self c).After-settle-answer in
     let ch = l.kept.chained in
-    (ch.few, (ch.within, (ch.heads, (ch.links, (∣ l.kept.sound ∣₁, (omega (arith, old.short, c.fix-built.auto.memo, c.settle-answer.auto.memo), (∣ l.knows ∣₁, tt)))))))
+    record {
+      few = ch.few;
+      within = ch.within;
+      heads = ch.heads;
+      links = ch.links;
+      sound = ∣ l.kept.sound ∣₁;
+      short = omega (arith, old.short, c.fix-built.auto.memo, c.settle-answer.auto.memo);
+      knows = ∣ l.knows ∣₁;
+    }
 
 pub returns : goal.returns
 returns c =

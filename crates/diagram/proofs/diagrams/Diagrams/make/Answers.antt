@@ -7,14 +7,14 @@ use Rattle.diagram.proofs.Memos.{remembers_grown}
 use Rattle.diagram.proofs.Once.{sound_of, remembers_of}
 use Rattle.diagram.proofs.diagrams.Diagrams.make.Goals as goal
 
-pub returns-then-not-both-stand : goal.returns-then-not-both-stand
-returns-then-not-both-stand c = record { is = (sym c.if-not-both-stand.ensures, refl); room = refl; grown = still }
+pub returns-then-not-both_stand : goal.returns-then-not-both_stand
+returns-then-not-both_stand c = record { is = (sym c.if-not-both_stand.ensures, refl); room = refl; grown = still }
 
 pub orders-requires : goal.orders-requires
-orders-requires c = known_parts (store_of c.args.self.now) c.args.node.low c.args.node.high (sym c.if-not-both-stand.ensures)
+orders-requires c = known_parts (store_of c.args.self.now) c.args.node.low c.args.node.high (sym c.if-not-both_stand.ensures)
 
 pub returns-then-not-orders : goal.returns-then-not-orders
-returns-then-not-orders c = record { is = (sym c.if-not-both-stand.ensures, sym c.if-not-orders.ensures, refl); room = refl; grown = still }
+returns-then-not-orders c = record { is = (sym c.if-not-both_stand.ensures, sym c.if-not-orders.ensures, refl); room = refl; grown = still }
 
 pub make-made-requires : goal.make-made-requires
 make-made-requires c =
@@ -25,12 +25,20 @@ make-made-requires c =
     record {
       chained = record { few = old.few; within = old.within; heads = old.heads; links = old.links };
       sound = so;
-      fits = subst (λ d. Fits (store_of d) c.args.node) is (fits_from (store_of c.args.self.now) c.args.node was (sym c.if-not-both-stand.ensures) (sym c.if-not-orders.ensures));
+      fits = subst (λ d. Fits (store_of d) c.args.node) is (fits_from (store_of c.args.self.now) c.args.node was (sym c.if-not-both_stand.ensures) (sym c.if-not-orders.ensures));
     }
 
-pub invariant-of-self : goal.invariant-of-self
-invariant-of-self c =
+pub invariant_of-self : goal.invariant_of-self
+invariant_of-self c =
     let old = c.take-words.result in
     let kept = c.make-made.ensures.kept in
     let ch = kept.chained in
-    (ch.few, (ch.within, (ch.heads, (ch.links, (∣ kept.sound ∣₁, (old.short, (∣ remembers_grown _ _ _ kept.sound kept.grown (remembers_of _ _ old.knows) ∣₁, tt)))))))
+    record {
+      few = ch.few;
+      within = ch.within;
+      heads = ch.heads;
+      links = ch.links;
+      sound = ∣ kept.sound ∣₁;
+      short = old.short;
+      knows = ∣ remembers_grown _ _ _ kept.sound kept.grown (remembers_of _ _ old.knows) ∣₁;
+    }

@@ -4,11 +4,19 @@ use Rattle.diagram.proofs.Lawful.{laws}
 use Rattle.diagram.proofs.Memos.{remembers_none}
 use Rattle.diagram.proofs.diagrams.Diagrams.open.Goals as goal
 
-pub invariant-of-result : goal.invariant-of-result
+pub invariant_of-result : goal.invariant_of-result
 unfolding stored
-invariant-of-result c =
+invariant_of-result c =
     let ch = c.clear.ensures in
-    (ch.few, (ch.within, (ch.heads, (ch.links, (∣ tt ∣₁, (omega (arith, c.forget.auto.memo, c.min-entries.ensures), (∣ remembers_none _ _ c.forget.ensures ∣₁, tt)))))))
+    record {
+      few = ch.few;
+      within = ch.within;
+      heads = ch.heads;
+      links = ch.links;
+      sound = ∣ tt ∣₁;
+      short = omega (arith, c.forget.auto.memo, c.min-entries.ensures);
+      knows = ∣ remembers_none _ _ c.forget.ensures ∣₁;
+    }
 
 pub returns : goal.returns
 unfolding stored

@@ -16,34 +16,42 @@ returns-then-self-mark c =
     let none : length (store_of was) - c.args.mark ≡ 0 = omega (arith, length-stored was.words.now was.fill) in
     record { is = sym (ap (λ n. drop n (store_of was)) none); room = refl }
 
-pub roll-back-requires : goal.roll-back-requires
-roll-back-requires c =
+pub roll_back-requires : goal.roll_back-requires
+roll_back-requires c =
     let old = c.take-words.result in
     let same = ap (λ (d : Diagrams). d.fill) c.take-words.ensures in
     (record { few = old.few; within = old.within; heads = old.heads; links = old.links }, omega (arith, same))
 
-pub invariant-of-self : goal.invariant-of-self
-invariant-of-self c =
+pub invariant_of-self : goal.invariant_of-self
+invariant_of-self c =
     let old = c.take-words.result in
-    let back = c.roll-back.ensures in
-    let ws = c.roll-back.new.words in
+    let back = c.roll_back.ensures in
+    let ws = c.roll_back.new.words in
     let same = ap (λ (d : Diagrams). d.fill) c.take-words.ensures in
-    let ch : Chained ws c.roll-back.new.fill = subst (Chained ws) (sym back.fill) back.chained in
+    let ch : Chained ws c.roll_back.new.fill = subst (Chained ws) (sym back.fill) back.chained in
     let olds = grown_sound (stored_grown old.words.now c.args.mark old.fill (omega (arith, same))) (sound_of _ old.sound) in
-    let so : Sound (stored ws c.roll-back.new.fill) = subst Sound (sym (ap (stored ws) back.fill ∙ back.stored)) olds in
-    (ch.few, (ch.within, (ch.heads, (ch.links, (∣ so ∣₁, (omega (arith, old.short, c.forget.auto.memo), (∣ remembers_none _ _ c.forget.ensures ∣₁, tt)))))))
+    let so : Sound (stored ws c.roll_back.new.fill) = subst Sound (sym (ap (stored ws) back.fill ∙ back.stored)) olds in
+    record {
+      few = ch.few;
+      within = ch.within;
+      heads = ch.heads;
+      links = ch.links;
+      sound = ∣ so ∣₁;
+      short = omega (arith, old.short, c.forget.auto.memo);
+      knows = ∣ remembers_none _ _ c.forget.ensures ∣₁;
+    }
 
 pub returns : goal.returns
 returns c =
     let was = c.args.self.now in
     let old = c.take-words.result in
-    let back = c.roll-back.ensures in
+    let back = c.roll_back.ensures in
     let same = c.take-words.ensures in
     let fill = ap (λ (d : Diagrams). d.fill) same in
     let m = c.args.mark in
     record {
-      is = ap (stored c.roll-back.new.words) back.fill ∙ back.stored ∙ stored_oldest old.words.now m old.fill (omega (arith, fill))
+      is = ap (stored c.roll_back.new.words) back.fill ∙ back.stored ∙ stored_oldest old.words.now m old.fill (omega (arith, fill))
           ∙ ap (λ (d : Diagrams). drop (d.fill - m) (store_of d)) same
           ∙ ap (λ n. drop (n - m) (store_of was)) (sym (length-stored was.words.now was.fill));
-      room = ap (λ n. n / 7) c.roll-back.auto.words ∙ ap room_of same;
+      room = ap (λ n. n / 7) c.roll_back.auto.words ∙ ap room_of same;
     }

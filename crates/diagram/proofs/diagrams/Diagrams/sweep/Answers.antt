@@ -14,13 +14,21 @@ sweep-kept-requires c =
     let old = c.take-words.result in
     record { chained = record { few = old.few; within = old.within; heads = old.heads; links = old.links }; sound = sound_of _ old.sound }
 
-pub invariant-of-self : goal.invariant-of-self
-invariant-of-self c =
+pub invariant_of-self : goal.invariant_of-self
+invariant_of-self c =
     let old = c.take-words.result in
     let swept-so = c.sweep-kept.ensures in
     let ch = swept-so.chained in
     let so : Sound (stored c.sweep-kept.new.words c.sweep-kept.result) = subst Sound (sym swept-so.store) (swept_right (store_of old) (sound_of _ old.sound) (wanted c.args.roots.now)).sound in
-    (ch.few, (ch.within, (ch.heads, (ch.links, (∣ so ∣₁, (omega (arith, old.short, c.forget.auto.memo), (∣ remembers_none _ _ c.forget.ensures ∣₁, tt)))))))
+    record {
+      few = ch.few;
+      within = ch.within;
+      heads = ch.heads;
+      links = ch.links;
+      sound = ∣ so ∣₁;
+      short = omega (arith, old.short, c.forget.auto.memo);
+      knows = ∣ remembers_none _ _ c.forget.ensures ∣₁;
+    }
 
 pub returns : goal.returns
 returns c =

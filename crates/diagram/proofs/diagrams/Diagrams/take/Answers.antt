@@ -2,6 +2,14 @@ use Rattle.std.proofs.Common.{arith}
 use Rattle.diagram.specs.Words.{stored}
 use Rattle.diagram.proofs.diagrams.Diagrams.take.Goals as goal
 
-pub invariant-of-replace : goal.invariant-of-replace
+pub invariant_of-replace : goal.invariant_of-replace
 unfolding stored
-invariant-of-replace c = (omega arith, (omega arith, ((λ b h. absurd (omega arith)), ((λ k h. absurd (omega arith)), (∣ tt ∣₁, (omega arith, (∣ (λ k h. absurd (omega arith)) ∣₁, tt)))))))
+invariant_of-replace c = record {
+      few = omega arith;
+      within = omega arith;
+      heads = λ b h. absurd (omega arith);
+      links = λ k h. absurd (omega arith);
+      sound = ∣ tt ∣₁;
+      short = omega arith;
+      knows = ∣ (λ k h. absurd (omega arith)) ∣₁;
+    }
