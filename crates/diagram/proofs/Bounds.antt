@@ -4,7 +4,7 @@ use Rattle.std.proofs.lemmas.Bool.{cond-true, cond-false, cases_Bool, cases_eq, 
 use Rattle.diagram.specs.Closing.{Contains, Coded, Bound}
 use Rattle.diagram.specs.Kinds.{Joins, Under}
 use Rattle.diagram.specs.Store.{Query, put}
-use Rattle.diagram.proofs.Canonical.{put_same, put_other}
+use Rattle.diagram.proofs.Canonical.{put_other}
 
 -- a pair that q lacks may be put into p, or taken out of it
 pub contains_put : (p q : Query) (v : ℕ) (b : Bool) → q v ≡ false → Contains p q → Contains (put p v b) q

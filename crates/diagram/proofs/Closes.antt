@@ -3,10 +3,10 @@ use Rattle.std.proofs.Common.{◌≡◌, ℕ, zero, suc, ◌<◌, ◌≤◌, Boo
 use mathlib.Core.Path.{fun_ext}
 use Rattle.std.proofs.lemmas.Bool.{cond-true, cond-false, lt-ltb, le-ltb, cases_lt}
 use Rattle.diagram.specs.Closing.{closing, Coded, Bound}
-use Rattle.diagram.specs.Combining.{first, combined}
+use Rattle.diagram.specs.Combining.{combined}
 use Rattle.diagram.specs.Kinds.{Joins}
 use Rattle.diagram.specs.Rules.{Leaves}
-use Rattle.diagram.specs.Store.{Store, Query, put, mark, node_of, top, low_part, high_part, eval, Outcome, done, bind, made, Later, Sound, Grown}
+use Rattle.diagram.specs.Store.{Store, Query, put, mark, node_of, top, low_part, high_part, eval, Outcome, done, bind, made, Later, Sound}
 use Rattle.diagram.proofs.Bounds.{bound_constant, bound_node, coded_side}
 use Rattle.diagram.proofs.Builds.{Holds, holds_by, holds_then, Built}
 use Rattle.diagram.proofs.Canonical.{part_at}

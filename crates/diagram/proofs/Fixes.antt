@@ -2,7 +2,7 @@
 use Rattle.std.proofs.Common.{◌≡◌, ℕ, zero, suc, ◌+◌, ◌<◌, ◌≤◌, Bool, true, cond, eqb, ltb, sym, refl, ap, ◌∙◌, subst, ap₂, ⊎_elim, arith}
 use Rattle.std.proofs.lemmas.Bool.{eq-eqb, ne_eqb, cond-true, cond-false, lt-ltb, le-ltb, cases_order}
 use Rattle.diagram.specs.Fixing.{fixing}
-use Rattle.diagram.specs.Store.{Store, Query, put, mark, node_of, top, low_part, high_part, eval, Outcome, done, bind, made, Sound, Grown}
+use Rattle.diagram.specs.Store.{Store, Query, put, mark, node_of, top, low_part, high_part, eval, Outcome, done, bind, made, Sound}
 use Rattle.diagram.proofs.Canonical.{put_above, put_same, put_other}
 use Rattle.diagram.proofs.Descents.{Descent, Descends, Ends, Goes, Way, ends, goes}
 use Rattle.diagram.proofs.Makes.{node_after}

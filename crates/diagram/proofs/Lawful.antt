@@ -3,7 +3,7 @@ use Rattle.std.proofs.Common.{◌≡◌, ℕ, ◌<◌}
 use Rattle.diagram.specs.declared.rule.Rule.{Rule}
 use Rattle.diagram.specs.declared.rule.Rule.TheVariants.{Two, Union}
 use Rattle.diagram.specs.Closing.{closed}
-use Rattle.diagram.specs.Kinds.{Joins, either, or_entries, union}
+use Rattle.diagram.specs.Kinds.{or_entries}
 use Rattle.diagram.specs.Laws.{Laws, LeastUpperBound, DecisionStillPossible, TruthStillPossible}
 use Rattle.diagram.specs.Rules.{value_of}
 use Rattle.diagram.specs.Store.{Store, Query, mark, eval, done, Sound}

@@ -3,9 +3,9 @@ use Rattle.std.proofs.Common.{◌≡◌, ℕ, ◌+◌, ◌-◌, ◌*◌, ◌<◌
 use Rattle.std.proofs.lemmas.List.{drop_more, drop_all}
 use Rattle.std.proofs.lemmas.Bool.{eq-eqb, ne_eqb, lt-ltb, le-ltb, cond-true, cond-false, cond_both, cases_eq, cases_lt, or_right, both_ways}
 use Rattle.diagram.specs.declared.node.Node.{Node}
-use Rattle.diagram.specs.Store.{Store, node_of, mark, Sound}
+use Rattle.diagram.specs.Store.{Store, node_of, Sound}
 use Rattle.diagram.specs.Sweeping.{wanted, wanted_parts, Swept, keep_node, swept, reached, packed, mark_at, marked, marking, OnlyMarks, Closed, new_at, new_root, putting}
-use Rattle.diagram.specs.Words.{bucket, capacity, node_at, stored, last, bucket_at, Chained}
+use Rattle.diagram.specs.Words.{capacity, node_at, stored, last, bucket_at, Chained}
 use Rattle.diagram.proofs.Chains.{last_skip, Grows, grown_chained, cleared_chained}
 use Rattle.diagram.proofs.Counts.{older_parts}
 use Rattle.diagram.proofs.Sweeps.{reached_more, reached_ext, reached_parts, packed_ext, packed_other, swept-packed, map_wanted}

@@ -1,5 +1,5 @@
 -- The steps of a recursion that goes down to two parts, in a table of words: what holds after each of its calls.
-use Rattle.std.proofs.Common.{◌≡◌, ℕ, ◌+◌, ◌/◌, ◌<◌, List, length, sym, ap, ◌∙◌, arith}
+use Rattle.std.proofs.Common.{◌≡◌, ℕ, ◌/◌, ◌<◌, List, length, sym, ap, ◌∙◌, arith}
 use Rattle.diagram.specs.Store.{full, done, Fits, Later, Sound, node_of}
 use Rattle.diagram.specs.Words.{capacity, stored}
 use Rattle.diagram.proofs.Descents.{Descent, Descends, Goes, Ran, ran_at, high_full, both_done}

@@ -1,9 +1,9 @@
-use Rattle.std.proofs.Common.{◌≡◌, ℕ, ◌+◌, ◌-◌, ◌/◌, ◌%◌, ◌<◌, sym, ap, ◌∙◌, subst, arith}
+use Rattle.std.proofs.Common.{◌≡◌, ℕ, ◌-◌, ◌/◌, ◌%◌, ◌<◌, sym, ap, ◌∙◌, subst, arith}
 use Rattle.std.proofs.lemmas.Result.{err_from_is_err_and}
 use Rattle.diagram.specs.Closing.{closed}
 use Rattle.diagram.specs.Combining.{combined}
 use Rattle.diagram.specs.Memo.{Remembers, close_key}
-use Rattle.diagram.specs.Rules.{keyed, value_of, Leaves}
+use Rattle.diagram.specs.Rules.{keyed, Leaves}
 use Rattle.diagram.specs.Store.{Store, mark, node_of, top, full, done, made, still, Later}
 use Rattle.diagram.specs.Words.{capacity, stored}
 use Rattle.diagram.proofs.Builds.{bind_full, bind_done}

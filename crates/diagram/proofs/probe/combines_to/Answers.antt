@@ -1,5 +1,4 @@
 use Rattle.std.proofs.Common.{◌∙◌, arith}
-use Rattle.diagram.specs.Words.{stored}
 use Rattle.diagram.proofs.Calling.{compared}
 use Rattle.diagram.proofs.Kept.{kept_long}
 use Rattle.diagram.proofs.Words.{length-stored}

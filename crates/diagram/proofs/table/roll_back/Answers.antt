@@ -1,5 +1,5 @@
 use Rattle.std.proofs.Common.{◌≡◌, ℕ, ◌+◌, ◌-◌, ◌*◌, ◌/◌, get_or, set, sym, ap, ◌∙◌, subst, arith}
-use Rattle.diagram.specs.Words.{Chained, stored, bucket_at, bucket, node_at}
+use Rattle.diagram.specs.Words.{Chained, stored, bucket_at, bucket}
 use Rattle.diagram.proofs.Chains.{shrunk_chained, shrunk_stored}
 use Rattle.diagram.proofs.table.roll_back.Goals as goal
 

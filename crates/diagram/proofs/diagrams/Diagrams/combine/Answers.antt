@@ -1,4 +1,4 @@
-use Rattle.std.proofs.Common.{◌≡◌, ℕ, ◌<◌, true, ◌&&◌, sym, refl, ap, ◌∙◌, subst, arith}
+use Rattle.std.proofs.Common.{◌≡◌, ℕ, ◌<◌, true, ◌&&◌, sym, refl, ap, subst, arith}
 use Rattle.diagram.specs.declared.diagrams.Diagrams.{Diagrams}
 use Rattle.diagram.specs.Calls.{stands}
 use Rattle.diagram.specs.Combining.{combined}

@@ -3,7 +3,6 @@ use Rattle.std.proofs.lemmas.Bool.{and_left, and_right, ltb-true}
 use Rattle.diagram.specs.Held.{store_of}
 use Rattle.diagram.specs.Store.{mark, Sound}
 use Rattle.diagram.specs.Words.{Chained, stored}
-use Rattle.diagram.specs.declared.diagrams.Diagrams.{Diagrams}
 use Rattle.diagram.proofs.Calling.{known_parts}
 use Rattle.diagram.proofs.Memos.{remembers_none}
 use Rattle.diagram.proofs.Once.{sound_of, remembers_of}

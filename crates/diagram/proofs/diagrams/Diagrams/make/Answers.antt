@@ -1,7 +1,6 @@
 use Rattle.std.proofs.Common.{sym, refl, subst}
 use Rattle.diagram.specs.Held.{store_of}
 use Rattle.diagram.specs.Store.{still, Fits, Sound}
-use Rattle.diagram.specs.declared.diagrams.Diagrams.{Diagrams}
 use Rattle.diagram.proofs.Calling.{known_parts, fits_from}
 use Rattle.diagram.proofs.Memos.{remembers_grown}
 use Rattle.diagram.proofs.Once.{sound_of, remembers_of}

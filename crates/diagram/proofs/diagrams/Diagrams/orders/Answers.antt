@@ -1,4 +1,4 @@
-use Rattle.std.proofs.Common.{◌≡◌, min, ltb, ap, arith}
+use Rattle.std.proofs.Common.{◌≡◌, ltb, ap, arith}
 use Rattle.diagram.specs.Combining.{first}
 use Rattle.diagram.specs.Held.{store_of}
 use Rattle.diagram.proofs.Words.{length-stored}

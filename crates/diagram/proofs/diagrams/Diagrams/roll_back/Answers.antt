@@ -1,6 +1,6 @@
 use Rattle.std.proofs.Common.{◌≡◌, ◌-◌, ◌/◌, length, drop, sym, refl, ap, ◌∙◌, subst, arith}
 use Rattle.diagram.specs.Held.{store_of, room_of}
-use Rattle.diagram.specs.Store.{mark, Sound}
+use Rattle.diagram.specs.Store.{Sound}
 use Rattle.diagram.specs.declared.diagrams.Diagrams.{Diagrams}
 use Rattle.diagram.proofs.Once.{sound_of}
 use Rattle.diagram.proofs.Words.{length-stored}

@@ -5,11 +5,11 @@ use Rattle.diagram.proofs.diagrams.Diagrams.take.Goals as goal
 pub invariant_of-replace : goal.invariant_of-replace
 unfolding stored
 invariant_of-replace c = record {
-      few = omega arith;
-      within = omega arith;
-      heads = λ b h. absurd (omega arith);
-      links = λ k h. absurd (omega arith);
-      sound = ∣ tt ∣₁;
-      short = omega arith;
-      knows = ∣ (λ k h. absurd (omega arith)) ∣₁;
-    }
+  few = omega arith;
+  within = omega arith;
+  heads = λ b h. absurd (omega arith);
+  links = λ k h. absurd (omega arith);
+  sound = ∣ tt ∣₁;
+  short = omega arith;
+  knows = ∣ (λ k h. absurd (omega arith)) ∣₁;
+}
