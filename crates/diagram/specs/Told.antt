@@ -24,7 +24,8 @@ On P (Err e) = Unit {0}
 
 -- the reference, where there is one, stands in the table and evaluates so
 abbrev pub Gives : {E : Type 0} → Store → (Query → ℕ) → Result ℕ E → Type 0
-Gives t value = On (λ r. (r < mark t) × ((q : Query) → eval t r q ≡ value q))
+Gives t value (Ok r) = (r < mark t) × ((q : Query) → eval t r q ≡ value q)
+Gives t value (Err e) = Unit {0}
 
 -- the reference, where there is one, stands in t and is at every query the least upper bound of what a says in s at the
 -- queries that contain it, provided that a has only codes of the kind

@@ -18,6 +18,7 @@ mod settle;
 mod spread;
 mod sweep;
 mod table;
+mod trial;
 mod view;
 
 pub use diagrams::Diagrams;
