@@ -2,6 +2,7 @@
 // error.
 #![tactic(auto)]
 
+use anyhow::anyhow;
 use diagram::{DecisionSets, Diagrams, Kind, Node, Refusal, Rule, Truth};
 use std::time::Instant;
 
@@ -281,17 +282,17 @@ fn time_count(
 
 fn time_large(rt: &HostRuntime, diagrams: &mut Diagrams, state: &mut u64) -> anyhow::Result<()> {
     let Ok(truth) = large(diagrams, state) else {
-        return Err(FULL.into());
+        return Err(anyhow!("{FULL}"));
     };
     let nodes = size(diagrams, truth);
     time_count(rt, diagrams, truth, nodes)?;
     time_closing::<Truth>(rt, diagrams, "truth", truth, nodes)?;
     let Ok(allowed) = any_of_three(diagrams, state, HALF_ABSENT) else {
-        return Err(FULL.into());
+        return Err(anyhow!("{FULL}"));
     };
     let mark = diagrams.len();
     let Ok(sets) = diagrams.combine(DECIDE, truth, allowed) else {
-        return Err(FULL.into());
+        return Err(anyhow!("{FULL}"));
     };
     let nodes = diagrams.len().saturating_sub(mark);
     time_closing::<DecisionSets>(rt, diagrams, "decision sets", sets, nodes)
