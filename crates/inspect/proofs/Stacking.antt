@@ -1,9 +1,8 @@
 -- The stack under the declarations of the whole file.
-use Rattle.std.proofs.Common.{◌≡◌, ℕ, true, false, leb, List, [], ◌∷◌, ◌++◌, map, reverse, Ok, sym, refl, ap, ◌∙◌}
+use Rattle.std.proofs.Common.{◌≡◌, ℕ, true, leb, List, [], ◌∷◌, ◌++◌, map, reverse, Ok, sym, refl, ap, ◌∙◌}
 use mathlib.Core.List.{reverse-append, map-append}
 use Rattle.std.proofs.lemmas.Bool.{and_parts, false≢true}
 use Rattle.policy.specs.Commands.{Command, attribute, operator, restrict, act, Context, declares}
-use Rattle.policy.specs.Policies as p
 use Rattle.policy.specs.Reading.{Item, puts, stack_of, top, Stop, stopped, ended, unopened, scan_file, commands_of, read_as, reads}
 use Rattle.inspect.specs.declared.formula.Item as i
 use Rattle.inspect.specs.declared.formula.Item.TheVariants as item_of_kind

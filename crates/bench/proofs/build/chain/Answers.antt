@@ -6,22 +6,22 @@ use Rattle.bench.proofs.Chaining.{turn_start, turn_low, turn_high, turn_full, tu
 use Rattle.bench.proofs.build.chain.Goals as goal
 
 pub loop-j-init : goal.loop-j-init
-loop-j-init c = turn_start _ _ _ _ _ _ c.requires.order c.requires.before-low c.requires.before-high
+loop-j-init c = turn_start _ _ _ _ _ _ c.requires.order c.requires.before_low c.requires.before_high
 
 pub node-requires : goal.node-requires
 node-requires c =
     let turn = c.loop-j.invariant in
-    record { small = omega (arith, c.requires.small, c.loop-j.auto.j); before-low = turn_low turn c.loop-j-test.true; before-high = turn_high turn c.loop-j-test.true }
+    record { small = omega (arith, c.requires.small, c.loop-j.auto.j); before_low = turn_low turn c.loop-j-test.true; before_high = turn_high turn c.loop-j-test.true }
 
-pub returns-in-err-r : goal.returns-in-err-r
-returns-in-err-r c =
+pub returns-in_err-r : goal.returns-in_err-r
+returns-in_err-r c =
     let turn = c.loop-j.invariant in
-    let made = c.in-err-r.ensures in
-    record { told = told_full _ _ c.from-residual.result c.from-residual.ensures.0 (turn_full turn c.loop-j-test.true made.told); room = made.room ∙ turn.same; grown = grown_trans turn.grown made.grown }
+    let made = c.in_err-r.ensures in
+    record { told = told_full _ _ c.from_residual.result c.from_residual.ensures.0 (turn_full turn c.loop-j-test.true made.told); room = made.room ∙ turn.same; grown = grown_trans turn.grown made.grown }
 
 pub loop-j-preserved : goal.loop-j-preserved
 loop-j-preserved c =
-    let made = c.in-ok-r.ensures in
+    let made = c.in_ok-r.ensures in
     turn_next c.loop-j.invariant _ _ _ c.loop-j-test.true (omega (arith, c.requires.small, c.loop-j.auto.j)) (standing c.loop-j.diagrams) made.told made.room
 
 pub returns : goal.returns

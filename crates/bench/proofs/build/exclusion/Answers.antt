@@ -12,16 +12,16 @@ use Rattle.bench.proofs.build.exclusion.Goals as goal
 pub node-requires : goal.node-requires
 node-requires c =
     let small = c.requires.small in
-    record { small = small; before-low = leaf_later _ _ 1 small (omega arith); before-high = leaf_later _ _ 0 small (omega arith) }
+    record { small = small; before_low = leaf_later _ _ 1 small (omega arith); before_high = leaf_later _ _ 0 small (omega arith) }
 
-pub returns-in-err-without : goal.returns-in-err-without
-returns-in-err-without c =
+pub returns-in_err-without : goal.returns-in_err-without
+returns-in_err-without c =
     let d = c.args.diagrams.now in
-    let second = c.in-err-without.ensures in
-    let r = c.from-residual.result in
+    let second = c.in_err-without.ensures in
+    let r = c.from_residual.result in
     let o = exclusion (room_of d) (store_of d) c.args.first c.args.second in
     let t = store_of c.node.new.diagrams in
-    let told : Told o t r = told_full t o r c.from-residual.ensures.0 (no_second _ _ _ _ c.requires.order c.requires.small (standing d) second.told) in
+    let told : Told o t r = told_full t o r c.from_residual.ensures.0 (no_second _ _ _ _ c.requires.order c.requires.small (standing d) second.told) in
     record { told = told; room = second.room; grown = second.grown; means = exclusion_means _ _ _ _ c.requires.order c.requires.small (standing d) t r told }
 
 pub node-requires-2 : goal.node-requires-2
@@ -29,14 +29,14 @@ node-requires-2 c =
     let small = c.requires.small in
     record {
       small = omega (arith, c.requires.order);
-      before-low = leaf_later _ _ 1 (omega (arith, c.requires.order)) (omega arith);
-      before-high = second_later _ _ _ _ c.requires.order small (standing c.args.diagrams.now) c.in-ok-without.ensures.told;
+      before_low = leaf_later _ _ 1 (omega (arith, c.requires.order)) (omega arith);
+      before_high = second_later _ _ _ _ c.requires.order small (standing c.args.diagrams.now) c.in_ok-without.ensures.told;
     }
 
 pub returns : goal.returns
 returns c =
     let d = c.args.diagrams.now in
-    let second = c.in-ok-without.ensures in
+    let second = c.in_ok-without.ensures in
     let first = c.node-2.ensures in
     let r = c.node-2.result in
     let o = exclusion (room_of d) (store_of d) c.args.first c.args.second in

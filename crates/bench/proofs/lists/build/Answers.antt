@@ -5,19 +5,19 @@ use Rattle.diagram.proofs.Stands.{grown_length, grown_trans}
 use Rattle.bench.proofs.Listings.{no_sets, no_unions, no_valid, no_reaches, all_listed}
 use Rattle.bench.proofs.lists.build.Goals as goal
 
-pub returns-in-err-sets : goal.returns-in-err-sets
-returns-in-err-sets c =
+pub returns-in_err-sets : goal.returns-in_err-sets
+returns-in_err-sets c =
     let d = c.args.diagrams.now in
-    let p = err_from_is_err_and c.from-residual.result c.from-residual.ensures.1 in
-    let one = c.in-err-sets.ensures in
+    let p = err_from_is_err_and c.from_residual.result c.from_residual.ensures.1 in
+    let one = c.in_err-sets.ensures in
     record { told = rw p.1 (no_sets (room_of d) (store_of d) c.args.draft one.told); room = one.room; grown = one.grown }
 
-pub returns-in-err-unions : goal.returns-in-err-unions
-returns-in-err-unions c =
+pub returns-in_err-unions : goal.returns-in_err-unions
+returns-in_err-unions c =
     let d = c.args.diagrams.now in
-    let p = err_from_is_err_and c.from-residual-in-err-unions.result c.from-residual-in-err-unions.ensures.1 in
-    let one = c.in-ok-sets.ensures in
-    let two = c.in-err-unions.ensures in
+    let p = err_from_is_err_and c.from_residual-in_err-unions.result c.from_residual-in_err-unions.ensures.1 in
+    let one = c.in_ok-sets.ensures in
+    let two = c.in_err-unions.ensures in
     record {
       told = rw p.1 (no_unions (room_of d) (store_of d) c.args.draft one.told _ one.room two.told);
       room = two.room ∙ one.room;
@@ -26,17 +26,17 @@ returns-in-err-unions c =
 
 pub combine-requires-2 : goal.combine-requires-2
 combine-requires-2 c =
-    let one = c.in-ok-sets.ensures in
-    let two = c.in-ok-unions.ensures in
+    let one = c.in_ok-sets.ensures in
+    let two = c.in_ok-unions.ensures in
     record { left = omega (arith, c.requires.valid, grown_length one.grown, grown_length two.grown); right = two.means.0 }
 
-pub returns-in-err-lists : goal.returns-in-err-lists
-returns-in-err-lists c =
+pub returns-in_err-lists : goal.returns-in_err-lists
+returns-in_err-lists c =
     let d = c.args.diagrams.now in
-    let p = err_from_is_err_and c.from-residual-in-err-lists.result c.from-residual-in-err-lists.ensures.1 in
-    let one = c.in-ok-sets.ensures in
-    let two = c.in-ok-unions.ensures in
-    let three = c.in-err-lists.ensures in
+    let p = err_from_is_err_and c.from_residual-in_err-lists.result c.from_residual-in_err-lists.ensures.1 in
+    let one = c.in_ok-sets.ensures in
+    let two = c.in_ok-unions.ensures in
+    let three = c.in_err-lists.ensures in
     record {
       told = rw p.1 (no_valid (room_of d) (store_of d) c.args.draft one.told _ one.room two.told _ (two.room ∙ one.room) three.told);
       room = three.room ∙ two.room ∙ one.room;
@@ -45,19 +45,19 @@ returns-in-err-lists c =
 
 pub close-requires-2 : goal.close-requires-2
 close-requires-2 c =
-    let one = c.in-ok-sets.ensures in
-    let two = c.in-ok-unions.ensures in
-    let three = c.in-ok-lists.ensures in
+    let one = c.in_ok-sets.ensures in
+    let two = c.in_ok-unions.ensures in
+    let three = c.in_ok-lists.ensures in
     omega (arith, c.requires.valid, grown_length one.grown, grown_length two.grown, grown_length three.grown)
 
-pub returns-in-err-reaches : goal.returns-in-err-reaches
-returns-in-err-reaches c =
+pub returns-in_err-reaches : goal.returns-in_err-reaches
+returns-in_err-reaches c =
     let d = c.args.diagrams.now in
-    let p = err_from_is_err_and c.from-residual-in-err-reaches.result c.from-residual-in-err-reaches.ensures.1 in
-    let one = c.in-ok-sets.ensures in
-    let two = c.in-ok-unions.ensures in
-    let three = c.in-ok-lists.ensures in
-    let four = c.in-err-reaches.ensures in
+    let p = err_from_is_err_and c.from_residual-in_err-reaches.result c.from_residual-in_err-reaches.ensures.1 in
+    let one = c.in_ok-sets.ensures in
+    let two = c.in_ok-unions.ensures in
+    let three = c.in_ok-lists.ensures in
+    let four = c.in_err-reaches.ensures in
     record {
       told = rw p.1 (no_reaches (room_of d) (store_of d) c.args.draft one.told _ one.room two.told _ (two.room ∙ one.room) three.told _ (three.room ∙ two.room ∙ one.room) four.told);
       room = four.room ∙ three.room ∙ two.room ∙ one.room;
@@ -67,10 +67,10 @@ returns-in-err-reaches c =
 pub returns : goal.returns
 returns c =
     let d = c.args.diagrams.now in
-    let one = c.in-ok-sets.ensures in
-    let two = c.in-ok-unions.ensures in
-    let three = c.in-ok-lists.ensures in
-    let four = c.in-ok-reaches.ensures in
+    let one = c.in_ok-sets.ensures in
+    let two = c.in_ok-unions.ensures in
+    let three = c.in_ok-lists.ensures in
+    let four = c.in_ok-reaches.ensures in
     record {
       told = (
         all_listed (room_of d) (store_of d) c.args.draft one.told _ one.room two.told _ (two.room ∙ one.room) three.told _ (three.room ∙ two.room ∙ one.room) four.told,

@@ -7,4 +7,4 @@ unfolding kept
 returns c =
     let r = c.number.result in
     let z = c.number.new.self in
-    then_adds r z _ c.in-ok-add.ensures (then_adds r z _ c.in-ok-bytes.ensures (then_adds r z _ c.in-ok-add-2.ensures c.number.ensures))
+    then_adds r z _ c.in_ok-add.ensures (then_adds r z _ c.in_ok-bytes.ensures (then_adds r z _ c.in_ok-add-2.ensures c.number.ensures))

@@ -7,4 +7,4 @@ unfolding kept
 returns c =
     let r = c.pair-2.result in
     let z = c.pair-2.new.text in
-    then_adds r z _ c.in-ok-add.ensures (then_adds r z _ c.in-ok-pair.ensures (then_adds r z _ c.in-ok-add-2.ensures c.pair-2.ensures))
+    then_adds r z _ c.in_ok-add.ensures (then_adds r z _ c.in_ok-pair.ensures (then_adds r z _ c.in_ok-add-2.ensures c.pair-2.ensures))

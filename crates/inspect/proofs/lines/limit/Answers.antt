@@ -7,4 +7,4 @@ unfolding kept
 returns c =
     let r = c.attribute.result in
     let z = c.attribute.new.text in
-    then_adds r z _ c.in-ok-add.ensures (then_adds r z _ c.in-ok-number.ensures (then_adds r z _ c.in-ok-add-2.ensures c.attribute.ensures))
+    then_adds r z _ c.in_ok-add.ensures (then_adds r z _ c.in_ok-number.ensures (then_adds r z _ c.in_ok-add-2.ensures c.attribute.ensures))

@@ -7,4 +7,4 @@ unfolding kept
 returns c =
     let r = c.add-2.result in
     let z = c.add-2.new.self in
-    then_adds r z _ c.in-ok-number.ensures (then_adds r z _ c.in-ok-add.ensures (then_adds r z _ c.in-ok-operands.ensures c.add-2.ensures))
+    then_adds r z _ c.in_ok-number.ensures (then_adds r z _ c.in_ok-add.ensures (then_adds r z _ c.in_ok-operands.ensures c.add-2.ensures))

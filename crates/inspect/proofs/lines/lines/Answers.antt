@@ -9,18 +9,18 @@ use Rattle.inspect.proofs.lines.lines.Goals as goal
 pub loop-taken-init : goal.loop-taken-init
 loop-taken-init c = none_yet _ _
 
-pub returns-in-default : goal.returns-in-default
-returns-in-default c =
-    let e = c.in-default.ensures in
-    no_more c.loop-taken.invariant c.in-default.field-0 c.next.new.self e.is e.kept
+pub returns-in_default : goal.returns-in_default
+returns-in_default c =
+    let e = c.in_default.ensures in
+    no_more c.loop-taken.invariant c.in_default.field-0 c.next.new.self e.is e.kept
 
-pub returns-then-is-end : goal.returns-then-is-end
-returns-then-is-end c =
+pub returns-then-is_end : goal.returns-then-is_end
+returns-then-is_end c =
     let s = c.next.new.self in
     let x = c.in-Ok.taken in
     let e = c.in-Ok.ensures in
-    let line = named (ap (λ (p : ℕ). line_text (context s) p (command x)) c.place-place.ensures) c.in-ok-line.ensures in
-    last_one c.loop-taken.invariant x s c.line.new.text e.is e.same line (sym c.if-is-end.ensures)
+    let line = named (ap (λ (p : ℕ). line_text (context s) p (command x)) c.place-place.ensures) c.in_ok-line.ensures in
+    last_one c.loop-taken.invariant x s c.line.new.text e.is e.same line (sym c.if-is_end.ensures)
 
 pub loop-taken-smaller : goal.loop-taken-smaller
 loop-taken-smaller c =
@@ -34,5 +34,5 @@ loop-taken-preserved c =
     let s = c.next.new.self in
     let x = c.in-Ok.taken in
     let e = c.in-Ok.ensures in
-    let line = named (ap (λ (p : ℕ). line_text (context s) p (command x)) c.place-place.ensures) c.in-ok-line.ensures in
-    one_more c.loop-taken.invariant x s c.line.new.text e.is e.same line (sym c.if-is-end.ensures)
+    let line = named (ap (λ (p : ℕ). line_text (context s) p (command x)) c.place-place.ensures) c.in_ok-line.ensures in
+    one_more c.loop-taken.invariant x s c.line.new.text e.is e.same line (sym c.if-is_end.ensures)

@@ -20,13 +20,13 @@ returns-in-AtLeast c =
     let text : Command → List ℕ = λ k. operands_text (context c.args.reader.now) (command k) in
     named_adds c.limit-in-AtLeast.result c.args.text.now c.limit-in-AtLeast.new.text _ _ (sym (ap text c.in-AtLeast.is)) c.limit-in-AtLeast.ensures
 
-pub returns-in-ok-add : goal.returns-in-ok-add
+pub returns-in_ok-add-in-Pair : goal.returns-in_ok-add-in-Pair
 unfolding kept
-returns-in-ok-add c =
+returns-in_ok-add-in-Pair c =
     let text : Command → List ℕ = λ k. operands_text (context c.args.reader.now) (command k) in
     let r = c.pair.result in
     let z = c.pair.new.text in
-    named_adds r c.args.text.now z _ _ (sym (ap text c.in-Pair.is)) (then_adds r z _ c.in-ok-add.ensures c.pair.ensures)
+    named_adds r c.args.text.now z _ _ (sym (ap text c.in-Pair.is)) (then_adds r z _ c.in_ok-add-in-Pair.ensures c.pair.ensures)
 
 pub returns-in-Constant : goal.returns-in-Constant
 returns-in-Constant c =
@@ -34,23 +34,23 @@ returns-in-Constant c =
     named_adds c.add-in-Constant.result c.args.text.now c.add-in-Constant.new.self _ _
     (ap kept c.constant.ensures ∙ kept_constant c.in-Constant.decision ∙ sym (ap text c.in-Constant.is)) c.add-in-Constant.ensures
 
-pub returns-in-ok-add-2 : goal.returns-in-ok-add-2
+pub returns-in_ok-add-in-Change : goal.returns-in_ok-add-in-Change
 unfolding kept
-returns-in-ok-add-2 c =
+returns-in_ok-add-in-Change c =
     let text : Command → List ℕ = λ k. operands_text (context c.args.reader.now) (command k) in
     let r = c.add-in-Change-2.result in
     let z = c.add-in-Change-2.new.self in
     let name = named_adds r c.add-in-Change.new.self z _ (change_name c.in-Change.code) (ap kept c.change.ensures ∙ kept_change c.in-Change.code) c.add-in-Change-2.ensures in
-    named_adds r c.args.text.now z _ _ (sym (ap text c.in-Change.is)) (then_adds r z _ c.in-ok-add-2.ensures name)
+    named_adds r c.args.text.now z _ _ (sym (ap text c.in-Change.is)) (then_adds r z _ c.in_ok-add-in-Change.ensures name)
 
-pub returns-in-ok-add-3 : goal.returns-in-ok-add-3
+pub returns-in_ok-add-in-Combine : goal.returns-in_ok-add-in-Combine
 unfolding kept
-returns-in-ok-add-3 c =
+returns-in_ok-add-in-Combine c =
     let text : Command → List ℕ = λ k. operands_text (context c.args.reader.now) (command k) in
     let r = c.add-in-Combine-2.result in
     let z = c.add-in-Combine-2.new.self in
     let name = named_adds r c.add-in-Combine.new.self z _ (operator_name c.in-Combine.code) (ap kept c.operator.ensures ∙ kept_operator c.in-Combine.code) c.add-in-Combine-2.ensures in
-    named_adds r c.args.text.now z _ _ (sym (ap text c.in-Combine.is)) (then_adds r z _ c.in-ok-add-3.ensures name)
+    named_adds r c.args.text.now z _ _ (sym (ap text c.in-Combine.is)) (then_adds r z _ c.in_ok-add-in-Combine.ensures name)
 
 pub returns-in-Guard : goal.returns-in-Guard
 unfolding kept

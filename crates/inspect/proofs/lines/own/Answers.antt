@@ -10,5 +10,5 @@ unfolding kept
 returns c =
     let r = c.digits.result in
     let z = c.digits.new.text in
-    let name = named (ap kept c.operator.ensures ∙ kept_operator c.newest.result ∙ ap operator_name c.newest.ensures) c.in-ok-add-2.ensures in
-    then_adds r z _ c.in-ok-add.ensures (then_adds r z _ name (then_adds r z _ c.in-ok-add-3.ensures c.digits.ensures))
+    let name = named (ap kept c.operator.ensures ∙ kept_operator c.newest.result ∙ ap operator_name c.newest.ensures) c.in_ok-add-2.ensures in
+    then_adds r z _ c.in_ok-add.ensures (then_adds r z _ name (then_adds r z _ c.in_ok-add-3.ensures c.digits.ensures))

@@ -6,7 +6,7 @@ pub returns : goal.returns
 unfolding kept
 returns c =
     record {
-      tree = c.in-ok-policy.policy;
-      builds = c.in-ok-policy.ensures;
-      text = then c.in-ok-add.ensures c.in-ok-policy-2.ensures;
+      tree = c.in_ok-policy.policy;
+      builds = c.in_ok-policy.ensures;
+      text = then c.in_ok-add.ensures c.in_ok-policy-2.ensures;
     }

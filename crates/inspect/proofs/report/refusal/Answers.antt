@@ -6,6 +6,6 @@ use Rattle.inspect.proofs.report.refusal.Goals as goal
 pub returns : goal.returns
 unfolding kept
 returns c =
-    let number = named (ap decimal c.number.ensures) c.in-ok-number.ensures in
-    let place = named (ap decimal c.place.ensures) c.in-ok-number-2.ensures in
-    whole c.new-text.ensures (then c.in-ok-add.ensures (then number (then c.in-ok-add-2.ensures (then place c.in-ok-add-3.ensures))))
+    let number = named (ap decimal c.number.ensures) c.in_ok-number.ensures in
+    let place = named (ap decimal c.place.ensures) c.in_ok-number-2.ensures in
+    whole c.new-text.ensures (then c.in_ok-add.ensures (then number (then c.in_ok-add-2.ensures (then place c.in_ok-add-3.ensures))))

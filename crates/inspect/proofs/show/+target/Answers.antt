@@ -10,29 +10,29 @@ use Rattle.inspect.proofs.Naming.{kept_change, kept_operator}
 use Rattle.inspect.proofs.Showing.{adds_prefixed, adds_infixed}
 use Rattle.inspect.proofs.show.+target.Goals as goal
 
-pub returns-in-ok-add-2 : goal.returns-in-ok-add-2
+pub returns-in_ok-add-in-Change-2 : goal.returns-in_ok-add-in-Change-2
 unfolding kept
-returns-in-ok-add-2 t c =
+returns-in_ok-add-in-Change-2 t c =
     let x : Context = context c.args.reader.now in
     let r = c.target.result in
     let z = c.target.new.text in
     let inner : Target = c.in-Change.inner.value in
-    let name = named (ap kept c.change.ensures ∙ kept_change c.in-Change.code) c.in-ok-add.ensures in
+    let name = named (ap kept c.change.ensures ∙ kept_change c.in-Change.code) c.in_ok-add-in-Change.ensures in
     let rest = subst (λ (v : Target). Adds r c.add-in-Change.new.self z (target_text x v)) c.deref.ensures c.target.ensures in
     named_adds r c.args.text.now z _ _ (sym (ap (target_text x) c.in-Change.is))
-    (adds_prefixed r z c.in-Change.code (target_text x inner) name c.in-ok-add-2.ensures rest)
+    (adds_prefixed r z c.in-Change.code (target_text x inner) name c.in_ok-add-in-Change-2.ensures rest)
 
-pub returns-in-ok-target-2 : goal.returns-in-ok-target-2
+pub returns-in_ok-target-in-Combine-2 : goal.returns-in_ok-target-in-Combine-2
 unfolding kept
-returns-in-ok-target-2 t c =
+returns-in_ok-target-in-Combine-2 t c =
     let x : Context = context c.args.reader.now in
     let r = c.add-in-Combine-5.result in
     let z = c.add-in-Combine-5.new.self in
     let first : Target = c.in-Combine.first.value in
     let second : Target = c.in-Combine.second.value in
-    let name = named (ap kept c.operator.ensures ∙ kept_operator c.in-Combine.code) c.in-ok-add-5.ensures in
-    let one = named (ap (target_text x) c.deref-in-Combine.ensures) c.in-ok-target.ensures in
-    let two = named (ap (target_text x) c.deref-in-Combine-2.ensures) c.in-ok-target-2.ensures in
+    let name = named (ap kept c.operator.ensures ∙ kept_operator c.in-Combine.code) c.in_ok-add-in-Combine-3.ensures in
+    let one = named (ap (target_text x) c.deref-in-Combine.ensures) c.in_ok-target-in-Combine.ensures in
+    let two = named (ap (target_text x) c.deref-in-Combine-2.ensures) c.in_ok-target-in-Combine-2.ensures in
     named_adds r c.args.text.now z _ _ (sym (ap (target_text x) c.in-Combine.is))
-    (adds_infixed r z c.in-Combine.code (target_text x first) (target_text x second) c.in-ok-add-3.ensures one c.in-ok-add-4.ensures name
-    c.in-ok-add-6.ensures two c.add-in-Combine-5.ensures)
+    (adds_infixed r z c.in-Combine.code (target_text x first) (target_text x second) c.in_ok-add-in-Combine.ensures one c.in_ok-add-in-Combine-2.ensures name
+    c.in_ok-add-in-Combine-4.ensures two c.add-in-Combine-5.ensures)

@@ -6,5 +6,5 @@ use Rattle.bench.proofs.bench.Bench.closed.Goals as goal
 pub returns-in-Closed : goal.returns-in-Closed
 returns-in-Closed c =
     let b = c.args.self.now in
-    let here = on_shelf b c.args.shelf c.in-ok-on.on _ c.in-ok-on.ensures c.in-Closed.is in
-    record { is = goes_on (state_of b) c.args.shelf c.in-ok-on.on _ (closed_on c.args.shelf) c.in-ok-on.ensures c.in-Closed.is; stands = (here.few, here.stands 2, here.stands 3) }
+    let here = on_shelf b c.args.shelf c.in_ok-on.on _ c.in_ok-on.ensures c.in-Closed.is in
+    record { is = goes_on (state_of b) c.args.shelf c.in_ok-on.on _ (closed_on c.args.shelf) c.in_ok-on.ensures c.in-Closed.is; stands = (here.few, here.stands 2, here.stands 3) }

@@ -3,8 +3,8 @@ use Rattle.bench.specs.declared.shelf.Shelf.TheVariants as shelf
 use Rattle.bench.proofs.Shelving.{Fitting, fitting_put, empty_stands}
 use Rattle.bench.proofs.bench.Bench.drop_shelf.Goals as goal
 
-pub invariant-of-self : goal.invariant-of-self
-invariant-of-self c =
+pub invariant_of-self : goal.invariant_of-self
+invariant_of-self c =
     let old = c.take-words.result in
     let fit = subst (λ l. Fitting l old.fill) (sym c.put-shelves.ensures)
     (fitting_put old.shelves old.fill old.fill c.args.shelf shelf.Empty (record { stand = old.stand; pairs = old.pairs }) (omega arith) (λ k. empty_stands k old.fill) (omega arith)) in

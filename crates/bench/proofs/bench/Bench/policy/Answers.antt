@@ -6,11 +6,11 @@ use Rattle.bench.proofs.bench.Bench.policy.Goals as goal
 pub returns-in-Draft : goal.returns-in-Draft
 returns-in-Draft c =
     let b = c.args.self.now in
-    let here = on_shelf b c.args.shelf c.in-ok-on.on _ c.in-ok-on.ensures c.in-Draft.is in
-    record { is = goes_on (state_of b) c.args.shelf c.in-ok-on.on _ (policy_on c.args.shelf) c.in-ok-on.ensures c.in-Draft.is; stands = (here.few, here.stands 0, here.stands 1) }
+    let here = on_shelf b c.args.shelf c.in_ok-on.on _ c.in_ok-on.ensures c.in-Draft.is in
+    record { is = goes_on (state_of b) c.args.shelf c.in_ok-on.on _ (policy_on c.args.shelf) c.in_ok-on.ensures c.in-Draft.is; stands = (here.few, here.stands 0, here.stands 1) }
 
 pub returns-in-Closed : goal.returns-in-Closed
 returns-in-Closed c =
     let b = c.args.self.now in
-    let here = on_shelf b c.args.shelf c.in-ok-on.on _ c.in-ok-on.ensures c.in-Closed.is in
-    record { is = goes_on (state_of b) c.args.shelf c.in-ok-on.on _ (policy_on c.args.shelf) c.in-ok-on.ensures c.in-Closed.is; stands = (here.few, here.stands 0, here.stands 1) }
+    let here = on_shelf b c.args.shelf c.in_ok-on.on _ c.in_ok-on.ensures c.in-Closed.is in
+    record { is = goes_on (state_of b) c.args.shelf c.in_ok-on.on _ (policy_on c.args.shelf) c.in_ok-on.ensures c.in-Closed.is; stands = (here.few, here.stands 0, here.stands 1) }

@@ -11,7 +11,7 @@ loop-byte-init c = begun_kept _
 pub loop-byte-preserved : goal.loop-byte-preserved
 loop-byte-preserved c =
     one_more (written c.args.self.now) (written c.loop-byte.self) (written c.push.new.self) c.args.bytes.now c.loop-byte.byte-index
-    c.loop-byte-test.true c.loop-byte.invariant c.in-ok-push.ensures.is
+    c.loop-byte-test.true c.loop-byte.invariant c.in_ok-push.ensures.is
 
 pub returns : goal.returns
 returns c =

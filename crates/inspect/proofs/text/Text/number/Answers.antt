@@ -8,5 +8,5 @@ pub returns : goal.returns
 returns c =
     let n = c.args.number in
     let small : n < 2 ^ 64 = omega arith in
-    let shown : c.as-str.result.now ≡ decimal n = c.as-str.ensures.value ∙ c.in-ok-digits.ensures.ok in
+    let shown : c.as_str.result.now ≡ decimal n = c.as_str.ensures.value ∙ c.in_ok-digits.ensures.ok in
     subst (λ (bs : List ℕ). Adds c.add.result c.args.self.now c.add.new.self bs) (ap kept shown ∙ kept_decimal n small) c.add.ensures
