@@ -255,7 +255,7 @@ fn declarations(rt: HostRuntime) -> Result<(), Fail> {
     assert_eq!(rt; reader.pairs(), 5);
     match reader.attribute(1) {
         Some(attribute) => {
-            assert_eq!(rt; attribute.name, b"bcdefghi");
+            assert_eq!(rt; attribute.name, b"bcdefghi".as_slice());
             assert_eq!(rt; attribute.start, 2);
             assert_eq!(rt; attribute.count, 3);
         }

@@ -31,7 +31,17 @@ invariant_of-self c =
     let now : ℕ = length (store_of new) in
     let same : now ≡ new.fill = length-stored new.words.now new.fill in
     let fit = subst (λ l. Fitting l new.fill) (sym (ap (λ (r : List Shelf × Result (Unit {0}) Fault). r.0) c.concluded-answer.ensures)) (subst (Fitting (conclude s.shelves c.args.shelf d c.lists-built.result).0) (ap length (sym c.roll_back.ensures.is) ∙ same) end) in
-    (new.few, (new.within, (new.heads, (new.links, (new.sound, (new.short, (new.knows, (fit.stand, (fit.pairs, tt)))))))))
+    record {
+      few = new.few;
+      within = new.within;
+      heads = new.heads;
+      links = new.links;
+      sound = new.sound;
+      short = new.short;
+      knows = new.knows;
+      stand = fit.stand;
+      pairs = fit.pairs;
+    }
 
 pub returns : goal.returns
 returns c =

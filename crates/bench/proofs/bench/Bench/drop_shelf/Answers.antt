@@ -8,4 +8,14 @@ invariant_of-self c =
     let old = c.take-words.result in
     let fit = subst (λ l. Fitting l old.fill) (sym c.put-shelves.ensures)
     (fitting_put old.shelves old.fill old.fill c.args.shelf shelf.Empty (record { stand = old.stand; pairs = old.pairs }) (omega arith) (λ k. empty_stands k old.fill) (omega arith)) in
-    (old.few, (old.within, (old.heads, (old.links, (old.sound, (old.short, (old.knows, (fit.stand, (fit.pairs, tt)))))))))
+    record {
+      few = old.few;
+      within = old.within;
+      heads = old.heads;
+      links = old.links;
+      sound = old.sound;
+      short = old.short;
+      knows = old.knows;
+      stand = fit.stand;
+      pairs = fit.pairs;
+    }

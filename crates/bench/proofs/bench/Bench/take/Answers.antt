@@ -7,4 +7,14 @@ pub invariant_of-replace : goal.invariant_of-replace
 unfolding stored
 invariant_of-replace c =
     let fit = fresh_fits 0 in
-    (omega arith, (omega arith, ((λ b h. absurd (omega arith)), ((λ k h. absurd (omega arith)), (∣ tt ∣₁, (omega arith, (∣ (λ k h. absurd (omega arith)) ∣₁, (fit.stand, (fit.pairs, tt)))))))))
+    record {
+      few = omega arith;
+      within = omega arith;
+      heads = λ b h. absurd (omega arith);
+      links = λ k h. absurd (omega arith);
+      sound = ∣ tt ∣₁;
+      short = omega arith;
+      knows = ∣ (λ k h. absurd (omega arith)) ∣₁;
+      stand = fit.stand;
+      pairs = fit.pairs;
+    }
