@@ -4,7 +4,7 @@ use Rattle.diagram.specs.Closing.{closed}
 use Rattle.diagram.specs.Combining.{combined}
 use Rattle.diagram.specs.Kinds.{either, union}
 use Rattle.diagram.specs.Rules.{where_one}
-use Rattle.diagram.specs.Store.{Store, Outcome, full, done}
+use Rattle.diagram.specs.Store.{Store, full, done}
 use Rattle.bench.specs.declared.shelf.Draft.{Draft}
 use Rattle.bench.specs.Closing.{Listing, no_lists, lists_done, then_lists, set_where, listing}
 

@@ -1,7 +1,6 @@
 -- What holds of the shelves, and of shelves of which one is changed.
 use Rattle.std.proofs.Common.{◌≡◌, ℕ, zero, suc, ◌+◌, ◌-◌, ◌<◌, ◌≤◌, List, [], ◌∷◌, length, get_or, drop, set, sym, refl, ap, ◌∙◌, subst, ⊎_elim, arith, get_or-set_other, get_or-set_same}
 use Rattle.std.proofs.lemmas.Bool.{cases_eq, cases_lt}
-use Rattle.diagram.specs.declared.node.Node.{Node}
 use Rattle.diagram.specs.Store.{Store, Grown, still, newer}
 use Rattle.diagram.proofs.Stands.{grown_length}
 use Rattle.bench.specs.declared.shelf.Shelf.{Shelf}

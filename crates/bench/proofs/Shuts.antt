@@ -1,14 +1,13 @@
 -- What a close leaves.
-use Rattle.std.proofs.Common.{◌≡◌, ℕ, zero, suc, ◌+◌, ◌-◌, ◌<◌, ◌≤◌, List, length, drop, Ok, Err, Result, sym, ap, ◌∙◌, subst, arith}
+use Rattle.std.proofs.Common.{◌≡◌, ℕ, zero, suc, ◌+◌, ◌-◌, ◌<◌, ◌≤◌, length, drop, Ok, Err, Result, sym, ap, ◌∙◌, subst, arith}
 use Rattle.diagram.specs.Store.{Store, Grown, mark}
 use Rattle.diagram.proofs.Stands.{grown_length}
 use Rattle.bench.specs.declared.full.TableFull.{TableFull}
 use Rattle.bench.specs.declared.shelf.Draft.{Draft}
 use Rattle.bench.specs.declared.shelf.Lists.{Lists}
-use Rattle.bench.specs.declared.shelf.Shelf.{Shelf}
 use Rattle.bench.specs.declared.shelf.Shelf.TheVariants as shelf
 use Rattle.bench.specs.Changing.{Step, close_with, conclude}
-use Rattle.bench.specs.Closing.{Listing, listing, ToldLists, FillAfter}
+use Rattle.bench.specs.Closing.{listing, ToldLists, FillAfter}
 use Rattle.bench.specs.Shelves.{reference}
 use Rattle.bench.specs.State.{State}
 use Rattle.bench.proofs.Shelving.{Fitting, fitting_put, rolled, rolled_none}

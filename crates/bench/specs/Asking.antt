@@ -1,5 +1,5 @@
 -- What the calls that ask a shelf answer.
-use Rattle.std.specs.Prelude.{ℕ, zero, suc, ◌+◌, ◌<◌, ◌≤◌, Bool, cond, ◌&&◌, Ok, Err, Result, ◌==◌, nat_lt, slice_index_or}
+use Rattle.std.specs.Prelude.{ℕ, zero, suc, ◌<◌, ◌≤◌, Bool, cond, ◌&&◌, Ok, Err, Result, ◌==◌, nat_lt, slice_index_or}
 use Rattle.diagram.specs.Store.{Query, mark, eval}
 use Rattle.policy.specs.declared.decision.Decision.{Decision}
 use Rattle.policy.specs.declared.decision.Decision.TheVariants.{Deny, Allow, NotApplicable}

@@ -1,9 +1,8 @@
 -- What the calls that change the bench answer, and what they leave.
-use Rattle.std.specs.Prelude.{◌≡◌, ℕ, List, Ok, Err, Result, slice_set}
+use Rattle.std.specs.Prelude.{ℕ, List, Ok, Err, Result, slice_set}
 use Rattle.diagram.specs.Store.{Store}
 use Rattle.bench.specs.declared.fault.Fault.{Fault}
 use Rattle.bench.specs.declared.fault.Fault.TheVariants.{Below}
-use Rattle.bench.specs.declared.fault.LoadFault.{LoadFault}
 use Rattle.bench.specs.declared.fault.LoadFault.TheVariants.{Table}
 use Rattle.bench.specs.declared.fault.Reason.TheVariants.{Empty, AlreadyClosed}
 use Rattle.bench.specs.declared.full.TableFull.{TableFull}

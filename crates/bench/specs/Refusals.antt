@@ -1,6 +1,5 @@
 -- The layer, number and place of every refusal. Layer 1 reads, 2 is the table, 3 is the bench.
 use Rattle.std.specs.Prelude.{ℕ}
-use Rattle.bench.specs.declared.fault.TableFault.{TableFault}
 use Rattle.bench.specs.declared.fault.LoadFault.{LoadFault}
 use Rattle.bench.specs.declared.fault.LoadFault.TheVariants.{Reading, Table}
 use Rattle.bench.specs.declared.fault.Reason.{Reason}

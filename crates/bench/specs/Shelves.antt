@@ -1,7 +1,5 @@
 -- What stands on a shelf.
 use Rattle.std.specs.Prelude.{ℕ, List, [], ◌∷◌, slice_index}
-use Rattle.bench.specs.declared.shelf.Draft.{Draft}
-use Rattle.bench.specs.declared.shelf.Lists.{Lists}
 use Rattle.bench.specs.declared.shelf.Shelf.{Shelf}
 use Rattle.bench.specs.declared.shelf.Shelf.TheVariants as shelf
 
