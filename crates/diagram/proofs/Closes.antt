@@ -86,6 +86,7 @@ module _ (join : ℕ → ℕ → ℕ) (s : Store) (r : ℕ) (so : Sound s) (h : 
 -- two references are combined, and then their node is made
 joined_holds : (join : ℕ → ℕ → ℕ) → Leaves join → (v l h : ℕ) (s : Store) → Sound s → v < 48 → Later s v l → Later s v h → (room : ℕ) →
     Holds (Built (joined join v l h) v (λ g. (q : Query) → g q ≡ cond (q v) (eval s h q) (join (eval s l q) (eval s h q))) s) (joined join v l h room s)
+unfolding combined
 joined_holds join leaves v l h s so small low high room =
     holds_then (λ room u. combined room u join l h) (λ j room u. made room u (node_of v j h)) _ v _ _ room s
     (holds (combines join) (combines_so join leaves) 48 room s (l, h) so (low.below, high.below) (omega arith))

@@ -1,5 +1,7 @@
 -- The laws hold of every sound store.
 use Rattle.std.proofs.Common.{◌≡◌, ℕ, ◌<◌}
+use Rattle.diagram.specs.Fixing.{fixed}
+use Rattle.diagram.specs.Combining.{combined}
 use Rattle.diagram.specs.declared.rule.Rule.{Rule}
 use Rattle.diagram.specs.declared.rule.Rule.TheVariants.{Two, Union}
 use Rattle.diagram.specs.Closing.{closed}
@@ -35,6 +37,7 @@ truth_still_possible room s a so h coded t r e q =
     truth_possible (eval s a) (depends s so a h) q (eval t r q) coded (least_upper_bound (Two or_entries) 2 either_joins room s a so h coded t r e q)
 
 pub laws : Laws
+unfolding combined fixed
 laws = record {
   extension = extension;
   dependence = dependence;

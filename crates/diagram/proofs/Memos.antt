@@ -45,6 +45,7 @@ stays d o {s} {t} x r so g st room e = (ran_at d o room s x (grown_sound g so) s
 
 -- an entry stays true while the table grows
 pub known_grown : {s t : Store} (key a b r : ℕ) → Sound t → Grown s t → Known s key a b r → Known t key a b r
+unfolding combined fixed
 known_grown {s} {t} key a b r so g k = (
   omega (arith, grown_length g, k.0),
   omega (arith, grown_length g, k.1),
@@ -70,6 +71,7 @@ remembers_grown s t memo so g m k h some = known_grown _ _ _ _ so g (m k h some)
 
 -- what was built just now is an entry of the store that it left
 pub known_combined : {s t : Store} (key a b r : ℕ) → key < 536870912 → (key % 4 ≡ 0 → ⊥) → a < mark s → b < mark s → Ran (combines (keyed key)) 48 s (a, b) t r → Known t key a b r
+unfolding combined
 known_combined {s} {t} key a b r lt ne ha hb ran = (
   omega (arith, grown_length ran.grown),
   omega (arith, grown_length ran.grown),
@@ -78,6 +80,7 @@ known_combined {s} {t} key a b r lt ne ha hb ran = (
 )
 
 pub known_fixed : {s t : Store} (j a r : ℕ) → j < 48 → a < mark s → Ran (fixes j) 48 s a t r → Known t (fix_key j) a 0 r
+unfolding fixed
 known_fixed {s} {t} j a r small ha ran =
     (omega (arith, grown_length ran.grown), omega arith, λ e. omega arith, λ room. built_fix room t j a 0 small ∙ ran.stable room t still ran.sound)
 

@@ -24,5 +24,5 @@ combining (suc deep) room s rule a b =
     (done s (rule a b))
 
 -- there are 48 pairs
-abbrev pub combined : ℕ → Store → (ℕ → ℕ → ℕ) → ℕ → ℕ → Outcome
+unfoldable pub combined : ℕ → Store → (ℕ → ℕ → ℕ) → ℕ → ℕ → Outcome
 combined room s rule a b = combining 48 room s rule a b

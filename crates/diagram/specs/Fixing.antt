@@ -13,5 +13,5 @@ fixing (suc deep) room s j r =
     made room s₂ (node_of (top s r) l h)))))
 
 -- there are 48 pairs
-abbrev pub fixed : ℕ → Store → ℕ → ℕ → Outcome
+unfoldable pub fixed : ℕ → Store → ℕ → ℕ → Outcome
 fixed room s j r = fixing 48 room s j r

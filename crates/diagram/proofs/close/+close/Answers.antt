@@ -154,6 +154,7 @@ join_done : (g : Over) (t : ℕ) (c : In_ok-joined g t) → combined (capacity c
 join_done g t c = subst (λ f. combined (capacity c.close-2.new.words) (stored c.close-2.new.words c.close-2.new.fill) f c.in_ok-one.one c.in_ok-two.two ≡ done (stored c.combine.new.words c.combine.new.fill) c.in_ok-joined.joined) c.rule-rule.ensures c.in_ok-joined.ensures.told
 
 pub make-requires : goal.make-requires
+unfolding combined
 make-requires g t c =
     let told = c.in_ok-joined.ensures in
     let ok = fits g t (goal.at.make-requires g t c).In_ok-two in

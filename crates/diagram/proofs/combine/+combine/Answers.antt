@@ -26,9 +26,11 @@ here t c =
 
 -- where the outcome is known, what else holds
 told_of : (t : ℕ) (c : After-min-v t) (u : Store) (r : ℕ) → combined (capacity c.args.words.now) (stored c.args.words.now c.args.fill.now) (value_of c.args.rule) c.args.a c.args.b ≡ done u r → Ran (combines (value_of c.args.rule)) 48 (stored c.args.words.now c.args.fill.now) (c.args.a, c.args.b) u r
+unfolding combined
 told_of t c u r e = ran_at (combines (value_of c.args.rule)) (combines_so _ (value_leaves c.args.rule)) (capacity c.args.words.now) _ (c.args.a, c.args.b) c.requires.sound (here t c) u r e
 
 pub returns-then-v-ge-PAIRS : goal.returns-then-v-ge-PAIRS
+unfolding combined
 returns-then-v-ge-PAIRS t c =
     let after = (goal.at.returns-then-v-ge-PAIRS t c).After-min-v in
     let s = stored c.args.words.now c.args.fill.now in
@@ -73,6 +75,7 @@ combine-requires t c =
     (omega (arith, go.at, go.small, go.low_later), (c.requires.chained, (c.requires.sound, (omega (arith, go.low_stands.0), (omega (arith, go.low_stands.1), (c.requires.few, c.requires.knows))))))
 
 pub returns-in_err-one : goal.returns-in_err-one
+unfolding combined
 returns-in_err-one t c =
     let p = err_from_is_err_and c.from_residual.result c.from_residual.ensures.1 in
     let told = c.in_err-one.ensures in
@@ -84,6 +87,7 @@ returns-in_err-one t c =
     }
 
 pub combine-requires-2 : goal.combine-requires-2
+unfolding combined
 combine-requires-2 t c =
     let go = goes t (goal.at.combine-requires-2 t c).After-high_of-bh in
     let told = c.in_ok-one.ensures in
@@ -93,6 +97,7 @@ combine-requires-2 t c =
     (omega (arith, go.at, go.small, high.1), (told.kept.chained, (told.kept.sound, (omega (arith, high.0.0), (omega (arith, high.0.1), (omega (arith, c.requires.few, c.combine.auto.memo), told.knows))))))
 
 pub returns-in_err-two : goal.returns-in_err-two
+unfolding combined
 returns-in_err-two t c =
     let p = err_from_is_err_and c.from_residual-in_err-two.result c.from_residual-in_err-two.ensures.1 in
     let told = c.in_ok-one.ensures in
@@ -105,6 +110,7 @@ returns-in_err-two t c =
     }
 
 pub make-requires : goal.make-requires
+unfolding combined
 make-requires t c =
     let told₂ = c.in_ok-two.ensures in
     record {
@@ -115,6 +121,7 @@ make-requires t c =
 
 -- up to the node, the two calls are done
 ready : (t : ℕ) (c : In_ok-two t) → combined (capacity c.args.words.now) (stored c.args.words.now c.args.fill.now) (value_of c.args.rule) c.args.a c.args.b ≡ made (capacity c.combine-2.new.words) (stored c.combine-2.new.words c.combine-2.new.fill) (node_of c.min-v.result c.in_ok-one.one c.in_ok-two.two)
+unfolding combined
 ready t c = at_end (combines (value_of c.args.rule)) (combines_so _ (value_leaves c.args.rule)) c.args.words.now c.args.fill.now c.requires.sound (goes t (goal.at.In_ok-two t c).After-high_of-bh) c.combine.new.words c.combine.new.fill c.in_ok-one.one c.in_ok-one.ensures.told c.combine-2.new.words c.combine-2.new.fill c.in_ok-two.two c.in_ok-two.ensures.told c.combine.auto.words c.combine-2.auto.words
 
 pub returns-in_err-r : goal.returns-in_err-r

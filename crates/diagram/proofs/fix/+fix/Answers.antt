@@ -19,9 +19,11 @@ here t c = omega (arith, c.requires.stands, length-stored c.args.words.now c.arg
 
 -- where the outcome is known, what else holds
 told_of : (t : ℕ) (c : After-top_of-v t) (u : Store) (r : ℕ) → fixed (capacity c.args.words.now) (stored c.args.words.now c.args.fill.now) c.args.pair c.args.a ≡ done u r → Ran (fixes c.args.pair) 48 (stored c.args.words.now c.args.fill.now) c.args.a u r
+unfolding fixed
 told_of t c u r e = ran_at (fixes c.args.pair) (fixes_so c.args.pair c.requires.small) (capacity c.args.words.now) _ c.args.a c.requires.sound (here t c) u r e
 
 pub returns-then-v-pair : goal.returns-then-v-pair
+unfolding fixed
 returns-then-v-pair t c =
     let after = (goal.at.returns-then-v-pair t c).After-top_of-v in
     let at = c.top_of-v.ensures c.args.fill.now c.requires.stands in
@@ -29,6 +31,7 @@ returns-then-v-pair t c =
     record { told = end.is 48 _ _ (omega arith) still; kept = kept_still _ _ c.requires.chained c.requires.sound; means = (end.below, end.means); knows = c.requires.knows }
 
 pub returns-then-v-pair-2 : goal.returns-then-v-pair-2
+unfolding fixed
 returns-then-v-pair-2 t c =
     let after = (goal.at.returns-then-v-pair-2 t c).After-top_of-v in
     let f = c.args.fill.now in
@@ -67,6 +70,7 @@ fix-requires t c =
     (omega (arith, go.at, go.small, go.low_later), (c.requires.chained, (c.requires.sound, (c.requires.small, (omega (arith, go.low_stands), (c.requires.few, c.requires.knows))))))
 
 pub returns-in_err-one : goal.returns-in_err-one
+unfolding fixed
 returns-in_err-one t c =
     let j = c.args.pair in
     let p = err_from_is_err_and c.from_residual.result c.from_residual.ensures.1 in
@@ -79,6 +83,7 @@ returns-in_err-one t c =
     }
 
 pub fix-requires-2 : goal.fix-requires-2
+unfolding fixed
 fix-requires-2 t c =
     let j = c.args.pair in
     let go = goes t (goal.at.fix-requires-2 t c).After-low_of-low in
@@ -89,6 +94,7 @@ fix-requires-2 t c =
     (omega (arith, go.at, go.small, high.1), (told.kept.chained, (told.kept.sound, (c.requires.small, (omega (arith, high.0), (omega (arith, c.requires.few, c.fix.auto.memo), told.knows))))))
 
 pub returns-in_err-two : goal.returns-in_err-two
+unfolding fixed
 returns-in_err-two t c =
     let j = c.args.pair in
     let p = err_from_is_err_and c.from_residual-in_err-two.result c.from_residual-in_err-two.ensures.1 in
@@ -102,6 +108,7 @@ returns-in_err-two t c =
     }
 
 pub make-requires : goal.make-requires
+unfolding fixed
 make-requires t c =
     let j = c.args.pair in
     let told₂ = c.in_ok-two.ensures in
@@ -113,6 +120,7 @@ make-requires t c =
 
 -- up to the node, the two calls are done
 ready : (t : ℕ) (c : In_ok-two t) → fixed (capacity c.args.words.now) (stored c.args.words.now c.args.fill.now) c.args.pair c.args.a ≡ made (capacity c.fix-2.new.words) (stored c.fix-2.new.words c.fix-2.new.fill) (node_of c.top_of-v.result c.in_ok-one.one c.in_ok-two.two)
+unfolding fixed
 ready t c =
     let j = c.args.pair in
     at_end (fixes j) (fixes_so j c.requires.small) c.args.words.now c.args.fill.now c.requires.sound (goes t (goal.at.In_ok-two t c).After-low_of-low) c.fix.new.words c.fix.new.fill c.in_ok-one.one c.in_ok-one.ensures.told c.fix-2.new.words c.fix-2.new.fill c.in_ok-two.two c.in_ok-two.ensures.told c.fix.auto.words c.fix-2.auto.words
