@@ -1,5 +1,5 @@
 ghost use Rattle.std.specs.Prelude.{◌≡◌, ◌+◌, ◌*◌, ◌<◌};
-ghost use Rattle.diagram.specs.Memo.{Empty, Few, entries as entries-of, is_for, noted, recalled};
+ghost use Rattle.diagram.specs.Memo.{Empty, Few, entries as entries_of, is_for, noted, recalled};
 
 use crate::spread::spread;
 
@@ -16,7 +16,7 @@ const SECOND: usize = 2;
 const RESULT: usize = 3;
 
 fn is_entry(memo: &[u32], k: usize, key: u32, a: u32, b: u32) -> bool
-    requires { k < entries-of memo.now }
+    requires { k < entries_of memo.now }
     ensures { result ≡ is_for memo.now k key a b }
 {
     memo[SIZE * k] == key && memo[SIZE * k + FIRST] == a && memo[SIZE * k + SECOND] == b

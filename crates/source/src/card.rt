@@ -1,4 +1,4 @@
-ghost use Rattle.source.specs.Card.{card as card-meaning};
+ghost use Rattle.source.specs.Card.{card as card_meaning};
 
 use crate::label::labelled;
 use crate::set::contains;
@@ -12,7 +12,7 @@ pub struct Card {
 }
 
 impl Source for Card {
-    ghost meaning = { λ s. card-meaning s.pairs s.label };
+    ghost meaning = { λ s. card_meaning s.pairs s.label };
 
     fn tells(&self, pair: u8) -> bool {
         let last = PAIRS - 1;

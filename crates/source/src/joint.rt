@@ -1,4 +1,4 @@
-ghost use Rattle.source.specs.Joint.{joint as joint-meaning};
+ghost use Rattle.source.specs.Joint.{joint as joint_meaning};
 
 use crate::Source;
 
@@ -10,7 +10,7 @@ pub struct Joint<A, B> {
 }
 
 impl<A: Source, B: Source> Source for Joint<A, B> {
-    ghost meaning = { λ s. joint-meaning (A.Source.meaning s.first) (B.Source.meaning s.second) };
+    ghost meaning = { λ s. joint_meaning (A.Source.meaning s.first) (B.Source.meaning s.second) };
 
     fn tells(&self, pair: u8) -> bool {
         self.first.tells(pair) || self.second.tells(pair)

@@ -1,4 +1,4 @@
-ghost use Rattle.source.specs.Shutter.{shutter as shutter-meaning};
+ghost use Rattle.source.specs.Shutter.{shutter as shutter_meaning};
 
 use crate::Source;
 use crate::set::contains;
@@ -11,7 +11,7 @@ pub struct Shutter<S> {
 }
 
 impl<S: Source> Source for Shutter<S> {
-    ghost meaning = { λ s. shutter-meaning s.hidden (S.Source.meaning s.below) };
+    ghost meaning = { λ s. shutter_meaning s.hidden (S.Source.meaning s.below) };
 
     fn tells(&self, pair: u8) -> bool {
         !contains(self.hidden, pair) && self.below.tells(pair)

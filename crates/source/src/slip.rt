@@ -1,5 +1,5 @@
 ghost use Rattle.std.specs.Prelude.{◌≡◌};
-ghost use Rattle.source.specs.Slip.{slip as slip-meaning, HoldsEveryMeaning};
+ghost use Rattle.source.specs.Slip.{slip as slip_meaning, HoldsEveryMeaning};
 
 use crate::label::labelled;
 use crate::{PAIRS, Source};
@@ -21,7 +21,7 @@ impl<'b> Slip<'b> {
 }
 
 impl Source for Slip<'_> {
-    ghost meaning = { λ s. slip-meaning s.bytes.now };
+    ghost meaning = { λ s. slip_meaning s.bytes.now };
 
     fn tells(&self, pair: u8) -> bool {
         self.label(pair).is_some()

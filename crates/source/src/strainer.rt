@@ -1,5 +1,5 @@
 ghost use Rattle.std.specs.Prelude.{◌≡◌, take};
-ghost use Rattle.source.specs.Strainer.{among, strainer as strainer-meaning};
+ghost use Rattle.source.specs.Strainer.{among, strainer as strainer_meaning};
 
 use crate::Source;
 
@@ -26,7 +26,7 @@ fn passes(labels: &[u8], label: u8) -> bool
 }
 
 impl<S: Source> Source for Strainer<'_, S> {
-    ghost meaning = { λ s. strainer-meaning s.labels.now (S.Source.meaning s.below) };
+    ghost meaning = { λ s. strainer_meaning s.labels.now (S.Source.meaning s.below) };
 
     fn tells(&self, pair: u8) -> bool {
         self.label(pair).is_some()
