@@ -2,7 +2,8 @@
 """Respells this repository's own names in specs/, proofs/ and contracts: usage: python3 tools/spelling.py, once, at the top.
 
 It was run once, right after the kit's port.py, when the repository moved to a newer Rattle; docs/PORT.md says when.
-A definition, lemma, field or variable that had dashes is spelled in snake case, a type or a predicate in camel case.
+A definition, lemma, field or variable that had dashes is spelled in snake case, a type or a predicate in camel case; so is a
+name that a file of src/ gives to a definition which it imports.
 The few lemmas in KEPT join the names of two functions by a dash, as Rattle's library does.
 Comments, strings, names of the library and names that Rattle makes of the source are left alone."""
 
@@ -55,6 +56,10 @@ def own_names():
                     own.add(m[1])
         else:
             own |= {w for w in NAME.findall(code) if w not in outside}
+    for path in glob.glob("crates/*/src/**/*.rt", recursive=True):
+        code = "".join(piece for piece, is_code in parts(open(path, encoding="utf-8").read()) if is_code)
+        for uses in re.findall(r"ghost use [^{;]*\{([^}]*)\}", code):
+            own |= set(re.findall(r" as (" + NAME.pattern + ")", uses))
     goals = set()
     for path in glob.glob("crates/*/proofs/**/*.antt", recursive=True):
         goals |= set(re.findall(r"goal\.(" + NAME.pattern + ")", open(path, encoding="utf-8").read()))

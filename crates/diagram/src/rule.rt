@@ -1,5 +1,5 @@
 ghost use Rattle.std.specs.Prelude.{◌≡◌, ◌<◌, ◌≤◌, length};
-ghost use Rattle.diagram.specs.Rules.{ToldApart, entry as entry_of, key_of, number as number_of_lem, value_of};
+ghost use Rattle.diagram.specs.Rules.{ToldApart, entry as entry_of, key_of, number as number_of, value_of};
 
 // How two leaf codes make a third. Of an entry the three lowest bits count, and a missing entry is 0.
 #[derive(Clone, Copy)]
@@ -54,7 +54,7 @@ fn entry(entries: &[u8], i: usize) -> u32
 // The entries as digits to the base 8, the first the lowest.
 fn number(entries: &[u8]) -> u32
     requires { length entries.now ≤ 9 }
-    ensures is { result ≡ number_of_lem entries.now }
+    ensures is { result ≡ number_of entries.now }
     ensures below { result < 134217728 }
 {
     let mut i = entries.len();
