@@ -1,7 +1,8 @@
 #!/usr/bin/env python3
 """Respells this repository's own names in specs/, proofs/ and contracts: usage: python3 tools/spelling.py, once, at the top.
 
-It was run once, right after the kit's port.py, when the repository moved to a newer Rattle; docs/PORT.md says when.
+It was run once, right after the kit's port.py, when the repository moved to a newer Rattle; docs/PORT.md says when, and what it
+learned later.
 A definition, lemma, field or variable that had dashes is spelled in snake case, a type or a predicate in camel case; so is a
 name that a file of src/ gives to a definition which it imports.
 The few lemmas in KEPT join the names of two functions by a dash, as Rattle's library does.
