@@ -19,7 +19,7 @@ impl Node {
     }
 }
 
-// The words of a node: these three, a bucket's head, a chain's link, and two that hold a count.
+// The words of a node: these three, a bucket's head, a chain's link, and two that hold a count, or in a sweep a mark.
 pub(crate) const SIZE: usize = 7;
 
 pub(crate) const LOW: usize = 1;
