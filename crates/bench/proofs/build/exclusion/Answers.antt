@@ -12,7 +12,7 @@ use Rattle.bench.proofs.build.exclusion.Goals as goal
 pub node-requires : goal.node-requires
 node-requires c =
     let small = c.requires.small in
-    record { small = small; before_low = leaf_later _ _ 1 small (omega arith); before_high = leaf_later _ _ 0 small (omega arith) }
+    record { small = small; before_low = leaf_later _ _ _ small (omega arith); before_high = leaf_later _ _ _ small (omega arith) }
 
 pub returns-in_err-without : goal.returns-in_err-without
 returns-in_err-without c =
@@ -29,7 +29,7 @@ node-requires-2 c =
     let small = c.requires.small in
     record {
       small = omega (arith, c.requires.order);
-      before_low = leaf_later _ _ 1 (omega (arith, c.requires.order)) (omega arith);
+      before_low = leaf_later _ _ _ (omega (arith, c.requires.order)) (omega arith);
       before_high = second_later _ _ _ _ c.requires.order small (standing c.args.diagrams.now) c.in_ok-without.ensures.told;
     }
 

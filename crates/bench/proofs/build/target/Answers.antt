@@ -20,8 +20,8 @@ chain-requires c =
     record {
       order = omega (arith, c.requires.to);
       small = small;
-      before_low = leaf_from _ _ 2 small (omega arith);
-      before_high = leaf_from _ _ 0 small (omega arith);
+      before_low = leaf_from _ _ _ small (omega arith);
+      before_high = leaf_from _ _ _ small (omega arith);
     }
 
 pub returns-in_err-after : goal.returns-in_err-after
@@ -41,7 +41,7 @@ node-requires c =
     record {
       small = omega (arith, c.requires.to, c.requires.small);
       before_low = after_later (room_of d) aim c.in_ok-after.ensures.told;
-      before_high = leaf_later _ _ 1 (omega (arith, c.requires.to, c.requires.small)) (omega arith);
+      before_high = leaf_later _ _ _ (omega (arith, c.requires.to, c.requires.small)) (omega arith);
     }
 
 pub returns-in_err-here : goal.returns-in_err-here
@@ -68,7 +68,7 @@ returns-then-start-pair c =
 pub node-requires-2 : goal.node-requires-2
 node-requires-2 c =
     let small : c.args.pair < 48 = omega (arith, c.requires.to, c.requires.small) in
-    record { small = small; before_low = leaf_later _ _ 0 small (omega arith); before_high = leaf_later _ _ 1 small (omega arith) }
+    record { small = small; before_low = leaf_later _ _ _ small (omega arith); before_high = leaf_later _ _ _ small (omega arith) }
 
 pub returns-in_err-only : goal.returns-in_err-only
 returns-in_err-only c =

@@ -28,7 +28,7 @@ pub combine-requires-2 : goal.combine-requires-2
 combine-requires-2 c =
     let one = c.in_ok-sets.ensures in
     let two = c.in_ok-unions.ensures in
-    record { left = omega (arith, c.requires.valid, grown_length one.grown, grown_length two.grown); right = two.means.0 }
+    record { left = omega (arith, c.requires.valid, grown_length one.grown, grown_length two.grown); right = omega (arith, one.means.0, two.means.0, grown_length two.grown) }
 
 pub returns-in_err-lists : goal.returns-in_err-lists
 returns-in_err-lists c =

@@ -7,7 +7,7 @@ pub invariant_of-self : goal.invariant_of-self
 invariant_of-self c =
     let old = c.take-words.result in
     let fit = subst (λ l. Fitting l old.fill) (sym c.put-shelves.ensures)
-    (fitting_put old.shelves old.fill old.fill c.args.shelf shelf.Empty (record { stand = old.stand; pairs = old.pairs }) (omega arith) (λ k. empty_stands k old.fill) (omega arith)) in
+    (fitting_put old.shelves old.fill old.fill _ shelf.Empty (record { stand = old.stand; pairs = old.pairs }) (omega arith) (λ k. empty_stands k old.fill) (omega arith)) in
     record {
       few = old.few;
       within = old.within;
