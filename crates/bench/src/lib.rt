@@ -6,7 +6,6 @@ mod build;
 mod fault;
 mod full;
 mod lists;
-mod mark;
 mod shelf;
 mod steps;
 

@@ -17,11 +17,6 @@ pub record Kept (old : List ℕ) (old_fill : ℕ) (new : List ℕ) (new_fill : �
   pub grown : Grown (stored old old_fill) (stored new new_fill)
   pub olds : stored new old_fill ≡ stored old old_fill
 
--- P of the reference, where there is one
-abbrev pub On : {E : Type 0} → (ℕ → Type 0) → Result ℕ E → Type 0
-On P (Ok r) = P r
-On P (Err e) = Unit {0}
-
 -- the reference, where there is one, stands in the table and evaluates so
 abbrev pub Gives : {E : Type 0} → Store → (Query → ℕ) → Result ℕ E → Type 0
 Gives t value (Ok r) = (r < mark t) × ((q : Query) → eval t r q ≡ value q)
@@ -30,7 +25,8 @@ Gives t value (Err e) = Unit {0}
 -- the reference, where there is one, stands in t and is at every query the least upper bound of what a says in s at the
 -- queries that contain it, provided that a has only codes of the kind
 abbrev pub Closes : {E : Type 0} → ℕ → (ℕ → ℕ → ℕ) → Store → ℕ → Store → Result ℕ E → Type 0
-Closes codes join s a t = On (λ r. (r < mark t) × (Coded codes (eval s a) → (q : Query) → Bound codes join (eval s a) q (eval t r q)))
+Closes codes join s a t (Ok r) = (r < mark t) × (Coded codes (eval s a) → (q : Query) → Bound codes join (eval s a) q (eval t r q))
+Closes codes join s a t (Err e) = Unit {0}
 
 -- whether two values agree at every query, unless there was no room to tell
 abbrev pub Compares : {E : Type 0} → Outcome → (Query → ℕ) → (Query → ℕ) → Result Bool E → Type 0

@@ -23,6 +23,7 @@ mod view;
 
 pub use diagrams::Diagrams;
 pub use kind::{DecisionSets, Kind, Truth};
+pub use mark::Mark;
 pub use node::Node;
 pub use refusal::Refusal;
 pub use rule::Rule;

@@ -1,9 +1,10 @@
 ghost use Rattle.std.specs.Prelude.{◌≡◌};
 
-// Restores the fill count when it is dropped, on whatever way the function is left.
-pub(crate) struct Mark<'a> {
-    pub(crate) fill: &'a mut usize,
-    pub(crate) start: usize,
+// Puts a fill count back to `start` when it is dropped, on whatever way the function is left. The count is a plain copy; the
+// table follows it afterwards.
+pub struct Mark<'a> {
+    pub fill: &'a mut usize,
+    pub start: usize,
 }
 
 impl Drop for Mark<'_> {

@@ -1,17 +1,20 @@
 ghost use Rattle.std.specs.Prelude.{◌≡◌, ◌+◌, ◌<◌, true, is_err};
+ghost use Rattle.diagram.specs.Closing.{closed};
 ghost use Rattle.diagram.specs.Combining.{combined};
 ghost use Rattle.diagram.specs.Fixing.{fixed};
 ghost use Rattle.diagram.specs.Memo.{Few, Remembers};
 ghost use Rattle.diagram.specs.Rules.{value_of};
 ghost use Rattle.diagram.specs.Store.{Sound, eval, put};
-ghost use Rattle.diagram.specs.Told.{Gives, Kept, Told};
+ghost use Rattle.diagram.specs.Told.{Closes, Gives, Kept, Told};
 ghost use Rattle.diagram.specs.Words.{Chained, capacity, stored};
 
+use crate::close::close;
 use crate::combine::combine;
 use crate::fix::fix;
-use crate::memo::forget;
+use crate::kind::Kind;
 use crate::rule::Rule;
-use crate::table::{TableFull, roll_back};
+use crate::settle::settle;
+use crate::table::TableFull;
 
 // Combines, or takes away again what was made until the table was full.
 pub(crate) fn combine_or_none(
@@ -35,14 +38,8 @@ pub(crate) fn combine_or_none(
     ensures alike { is_err result ≡ true → fill.new ≡ fill.old }
 {
     let start = *fill;
-    match combine(words, fill, memo, rule, a, b) {
-        Ok(r) => Ok(r),
-        Err(e) => {
-            roll_back(words, fill, start);
-            forget(memo);
-            Err(e)
-        }
-    }
+    let built = combine(words, fill, memo, rule, a, b);
+    settle(words, fill, memo, start, built)
 }
 
 // Fixes a pair, or takes away again what was made until the table was full.
@@ -66,12 +63,29 @@ pub(crate) fn fix_or_none(
     ensures alike { is_err result ≡ true → fill.new ≡ fill.old }
 {
     let start = *fill;
-    match fix(words, fill, memo, pair, a) {
-        Ok(r) => Ok(r),
-        Err(e) => {
-            roll_back(words, fill, start);
-            forget(memo);
-            Err(e)
-        }
-    }
+    let built = fix(words, fill, memo, pair, a);
+    settle(words, fill, memo, start, built)
+}
+
+// Closes, or takes away again what was made until the table was full.
+pub(crate) fn close_or_none<K: Kind>(
+    words: &mut [u32],
+    fill: &mut usize,
+    memo: &mut [u32],
+    a: u32,
+) -> Result<u32, TableFull>
+    requires chained { Chained words.old fill.old }
+    requires sound { Sound (stored words.old fill.old) }
+    requires stands { a < 8 + fill.old }
+    requires few { Few memo.old }
+    requires knows { Remembers (stored words.old fill.old) memo.old }
+    ensures told { Told (closed (capacity words.old) (stored words.old fill.old) K.Kind.join a) (stored words.new fill.new) result }
+    ensures kept { Kept words.old fill.old words.new fill.new }
+    ensures means { Closes K.Kind.codes K.Kind.join (stored words.old fill.old) a (stored words.new fill.new) result }
+    ensures knows { Remembers (stored words.new fill.new) memo.new }
+    ensures alike { is_err result ≡ true → fill.new ≡ fill.old }
+{
+    let start = *fill;
+    let built = close::<K>(words, fill, memo, a);
+    settle(words, fill, memo, start, built)
 }

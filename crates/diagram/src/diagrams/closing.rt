@@ -8,7 +8,7 @@ ghost use Rattle.diagram.specs.Told.{Closes};
 use super::Diagrams;
 use crate::kind::Kind;
 use crate::refusal::Refusal;
-use crate::settle::settle;
+use crate::trial::close_or_none;
 
 impl<'m> Diagrams<'m> {
     // The diagram closed by the join of a kind of leaf: at every query the least upper bound of what it says at all queries
@@ -23,14 +23,12 @@ impl<'m> Diagrams<'m> {
             return Err(Refusal::Unknown);
         }
         let Diagrams { words, memo, fill } = self.take();
-        let mut end = fill;
-        let built = crate::close::close::<K>(words, &mut end, memo, a);
-        let answer = settle(words, &mut end, memo, fill, built);
-        *self = Diagrams {
-            words,
-            memo,
-            fill: end,
-        };
-        answer
+        let mut fill = fill;
+        let built = close_or_none::<K>(words, &mut fill, memo, a);
+        *self = Diagrams { words, memo, fill };
+        match built {
+            Ok(r) => Ok(r),
+            Err(_) => Err(Refusal::Full),
+        }
     }
 }

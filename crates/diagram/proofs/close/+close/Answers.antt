@@ -191,17 +191,17 @@ returns-in_err-r g t c =
 
 pub returns : goal.returns
 returns g t c =
-    let with-rule = (goal.at.returns g t c).After-rule-rule in
-    let with-key = (goal.at.returns g t c).After-key-key in
+    let with_rule = (goal.at.returns g t c).After-rule-rule in
+    let with_key = (goal.at.returns g t c).After-key-key in
     let told = c.in_ok-r.ensures in
     let s = stored c.args.words.now c.args.fill.now in
     let s₃ = stored c.combine.new.words c.combine.new.fill in
     let s₄ = stored c.make.new.words c.make.new.fill in
     let key = c.key-key.result in
     let whole : closed (capacity c.args.words.now) s g.K.Kind.join c.args.a ≡ done s₄ c.in_ok-r.r = ready g t (goal.at.returns g t c).In_ok-joined ∙ told.told in
-    let ran = told_of g t with-rule s₄ c.in_ok-r.r whole in
-    let ran-key = subst (λ f. Ran (closes f) 48 s c.args.a s₄ c.in_ok-r.r) (sym (turned g t with-key)) ran in
-    let new = known_closed key c.args.a c.in_ok-r.r (no_pair g t with-key) (here g t (goal.at.returns g t c).After-top_of-v) ran-key in
+    let ran = told_of g t with_rule s₄ c.in_ok-r.r whole in
+    let ran_key = subst (λ f. Ran (closes f) 48 s c.args.a s₄ c.in_ok-r.r) (sym (turned g t with_key)) ran in
+    let new = known_closed key c.args.a c.in_ok-r.r (no_pair g t with_key) (here g t (goal.at.returns g t c).After-top_of-v) ran_key in
     let old = remembers_grown s₃ s₄ c.combine.new.memo told.kept.sound told.kept.grown c.in_ok-joined.ensures.knows in
     record {
       told = whole;

@@ -51,12 +51,12 @@ returns-in-Some t c =
     let s = stored c.args.words.now c.args.fill.now in
     let room = capacity c.args.words.now in
     let key = c.key-key.result in
-    let with-key = (goal.at.returns-in-Some t c).After-key-key in
-    let ne = no_pair t with-key in
+    let with_key = (goal.at.returns-in-Some t c).After-key-key in
+    let ne = no_pair t with_key in
     let some : 0 < key = omega arith in
     let k = recalled_known s c.args.memo.now key c.args.a c.args.b c.in-Some.r some c.requires.knows (sym c.in-Some.ensures) in
     let e : combined room s (value_of c.args.rule) c.args.a c.args.b ≡ done s c.in-Some.r =
-    ap (λ f. combined room s f c.args.a c.args.b) (sym (turned t with-key)) ∙ sym (built_rule room s key c.args.a c.args.b c.key-key.ensures.below ne) ∙ k.3 room in
+    ap (λ f. combined room s f c.args.a c.args.b) (sym (turned t with_key)) ∙ sym (built_rule room s key c.args.a c.args.b c.key-key.ensures.below ne) ∙ k.3 room in
     let ran = told_of t (goal.at.returns-in-Some t c).After-min-v s c.in-Some.r e in
     record { told = e; kept = kept_still _ _ c.requires.chained c.requires.sound; means = (ran.below, ran.means); knows = c.requires.knows }
 
@@ -138,7 +138,7 @@ returns-in_err-r t c =
 pub returns : goal.returns
 returns t c =
     let after = (goal.at.returns t c).After-min-v in
-    let with-key = (goal.at.returns t c).After-key-key in
+    let with_key = (goal.at.returns t c).After-key-key in
     let told = c.in_ok-r.ensures in
     let s = stored c.args.words.now c.args.fill.now in
     let s₂ = stored c.combine-2.new.words c.combine-2.new.fill in
@@ -146,8 +146,8 @@ returns t c =
     let key = c.key-key.result in
     let whole : combined (capacity c.args.words.now) s (value_of c.args.rule) c.args.a c.args.b ≡ done s₃ c.in_ok-r.r = ready t (goal.at.returns t c).In_ok-two ∙ told.told in
     let ran = told_of t after s₃ c.in_ok-r.r whole in
-    let ran-key = subst (λ f. Ran (combines f) 48 s (c.args.a, c.args.b) s₃ c.in_ok-r.r) (sym (turned t with-key)) ran in
-    let new = known_combined key c.args.a c.args.b c.in_ok-r.r c.key-key.ensures.below (no_pair t with-key) (here t after).0 (here t after).1 ran-key in
+    let ran_key = subst (λ f. Ran (combines f) 48 s (c.args.a, c.args.b) s₃ c.in_ok-r.r) (sym (turned t with_key)) ran in
+    let new = known_combined key c.args.a c.args.b c.in_ok-r.r c.key-key.ensures.below (no_pair t with_key) (here t after).0 (here t after).1 ran_key in
     let old = remembers_grown s₂ s₃ c.combine-2.new.memo told.kept.sound told.kept.grown c.in_ok-two.ensures.knows in
     record {
       told = whole;

@@ -1,24 +1,20 @@
-use Rattle.std.proofs.lemmas.Bool.{false≢true}
-use Rattle.diagram.proofs.Kept.{kept_back, kept_long}
-use Rattle.diagram.proofs.Memos.{remembers_none}
+use Rattle.std.proofs.Common.{true}
+use Rattle.diagram.specs.Fixing.{fixed}
+use Rattle.diagram.specs.Store.{eval, put}
+use Rattle.diagram.specs.Told.{Gives}
+use Rattle.diagram.specs.Words.{capacity, stored}
+use Rattle.diagram.proofs.Kept.{kept_long}
+use Rattle.diagram.proofs.Settles.{settled}
 use Rattle.diagram.proofs.trial.fix_or_none.Goals as goal
 
-pub roll_back-requires : goal.roll_back-requires
-roll_back-requires c = (c.in-Err.ensures.kept.chained, kept_long c.in-Err.ensures.kept)
+pub settle-requires : goal.settle-requires
+settle-requires c = let kept = c.fix-built.ensures.kept in record { chained = kept.chained; later = kept_long kept }
 
-pub returns-in-Ok : goal.returns-in-Ok
-returns-in-Ok c =
-    let told = c.in-Ok.ensures in
-    record { told = told.told; kept = told.kept; means = told.means; knows = told.knows; alike = λ e. absurd (false≢true e) }
-
-pub returns-in-Err : goal.returns-in-Err
-returns-in-Err c =
-    let told = c.in-Err.ensures in
-    let back = c.roll_back.ensures in
-    record {
-      told = told.told;
-      kept = kept_back c.requires.sound told.kept back.chained back.fill back.stored;
-      means = tt;
-      knows = remembers_none _ _ c.forget.ensures;
-      alike = λ e. back.fill;
-    }
+pub returns : goal.returns
+returns c =
+    let s = stored c.args.words.now c.args.fill.now in
+    let built = c.fix-built.ensures in
+    let l = settled (fixed (capacity c.args.words.now) s c.args.pair c.args.a)
+    (λ t r. Gives t (λ q. eval s c.args.a (put q c.args.pair true)) r)
+    (λ t e. tt) c.requires.sound _ _ _ _ _ _ _ _ built.told built.kept built.means built.knows c.settle.ensures in
+    record { told = l.told; kept = l.kept; means = l.means; knows = l.knows; alike = l.alike }

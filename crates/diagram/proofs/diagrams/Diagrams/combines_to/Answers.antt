@@ -1,12 +1,11 @@
-use Rattle.std.proofs.Common.{◌<◌, sym, refl, ap, ◌∙◌, subst, arith}
+use Rattle.std.proofs.Common.{sym, refl, ap, ◌∙◌, subst, arith}
 use Rattle.std.proofs.lemmas.Bool.{and_left, and_right, ltb-true}
 use Rattle.diagram.specs.Held.{store_of}
-use Rattle.diagram.specs.Store.{mark, Sound}
+use Rattle.diagram.specs.Store.{Sound}
 use Rattle.diagram.specs.Words.{Chained, stored}
 use Rattle.diagram.proofs.Calling.{known_parts}
 use Rattle.diagram.proofs.Memos.{remembers_none}
-use Rattle.diagram.proofs.Once.{sound_of, remembers_of}
-use Rattle.diagram.proofs.Words.{length-stored}
+use Rattle.diagram.proofs.Standing.{standing, chained, remembered, still_stands}
 use Rattle.diagram.proofs.diagrams.Diagrams.combines_to.Goals as goal
 
 pub returns-then-not-both_stand : goal.returns-then-not-both_stand
@@ -18,20 +17,15 @@ returns-then-not-stands c = record { is = and_right _ _ (sym c.if-not-stands.ens
 pub combines_to-told-requires : goal.combines_to-told-requires
 combines_to-told-requires c =
     let old = c.take-words.result in
-    let is = sym c.take-words.ensures in
-    let long = length-stored old.words.now old.fill in
     let known = known_parts (store_of c.args.self.now) c.args.a c.args.b (sym c.if-not-both_stand.ensures) in
-    let left : c.args.a < mark (store_of old) = subst (λ d. c.args.a < mark (store_of d)) is known.0 in
-    let right : c.args.b < mark (store_of old) = subst (λ d. c.args.b < mark (store_of d)) is known.1 in
-    let other : c.args.c < mark (store_of old) = subst (λ d. c.args.c < mark (store_of d)) is (ltb-true _ _ (sym c.if-not-stands.ensures)) in
     record {
-      chained = record { few = old.few; within = old.within; heads = old.heads; links = old.links };
-      sound = sound_of _ old.sound;
-      left = omega arith;
-      right = omega arith;
-      other = omega arith;
+      chained = chained old;
+      sound = standing old;
+      left = still_stands old c.args.self.now c.args.a c.take-words.ensures known.0;
+      right = still_stands old c.args.self.now c.args.b c.take-words.ensures known.1;
+      other = still_stands old c.args.self.now c.args.c c.take-words.ensures (ltb-true _ _ (sym c.if-not-stands.ensures));
       few = old.short;
-      knows = remembers_of _ _ old.knows;
+      knows = remembered old;
     }
 
 pub invariant_of-self : goal.invariant_of-self
@@ -40,7 +34,7 @@ invariant_of-self c =
     let told = c.combines_to-told.ensures in
     let ws = c.combines_to-told.new.words in
     let ch : Chained ws c.combines_to-told.new.fill = subst (Chained ws) (sym told.fill) told.chained in
-    let so : Sound (stored ws c.combines_to-told.new.fill) = subst Sound (sym (ap (stored ws) told.fill ∙ told.stored)) (sound_of _ old.sound) in
+    let so : Sound (stored ws c.combines_to-told.new.fill) = subst Sound (sym (ap (stored ws) told.fill ∙ told.stored)) (standing old) in
     record {
       few = ch.few;
       within = ch.within;

@@ -3,7 +3,7 @@ use Rattle.diagram.specs.Held.{store_of}
 use Rattle.diagram.specs.Store.{still, Fits, Sound}
 use Rattle.diagram.proofs.Calling.{known_parts, fits_from}
 use Rattle.diagram.proofs.Memos.{remembers_grown}
-use Rattle.diagram.proofs.Once.{sound_of, remembers_of}
+use Rattle.diagram.proofs.Standing.{standing, chained, remembered}
 use Rattle.diagram.proofs.diagrams.Diagrams.make.Goals as goal
 
 pub returns-then-not-both_stand : goal.returns-then-not-both_stand
@@ -19,10 +19,10 @@ pub make-made-requires : goal.make-made-requires
 make-made-requires c =
     let old = c.take-words.result in
     let is = sym c.take-words.ensures in
-    let so = sound_of _ old.sound in
+    let so = standing old in
     let was = subst (λ d. Sound (store_of d)) (sym is) so in
     record {
-      chained = record { few = old.few; within = old.within; heads = old.heads; links = old.links };
+      chained = chained old;
       sound = so;
       fits = subst (λ d. Fits (store_of d) c.args.node) is (fits_from (store_of c.args.self.now) c.args.node was (sym c.if-not-both_stand.ensures) (sym c.if-not-orders.ensures));
     }
@@ -39,5 +39,5 @@ invariant_of-self c =
       links = ch.links;
       sound = ∣ kept.sound ∣₁;
       short = old.short;
-      knows = ∣ remembers_grown _ _ _ kept.sound kept.grown (remembers_of _ _ old.knows) ∣₁;
+      knows = ∣ remembers_grown _ _ _ kept.sound kept.grown (remembered old) ∣₁;
     }

@@ -2,7 +2,7 @@ use Rattle.std.proofs.Common.{◌≡◌, ◌-◌, ◌/◌, length, drop, sym, re
 use Rattle.diagram.specs.Held.{store_of, room_of}
 use Rattle.diagram.specs.Store.{Sound}
 use Rattle.diagram.specs.declared.diagrams.Diagrams.{Diagrams}
-use Rattle.diagram.proofs.Once.{sound_of}
+use Rattle.diagram.proofs.Standing.{standing, chained}
 use Rattle.diagram.proofs.Words.{length-stored}
 use Rattle.diagram.specs.Words.{Chained, stored}
 use Rattle.diagram.proofs.Memos.{remembers_none}
@@ -20,7 +20,7 @@ pub roll_back-requires : goal.roll_back-requires
 roll_back-requires c =
     let old = c.take-words.result in
     let same = ap (λ (d : Diagrams). d.fill) c.take-words.ensures in
-    (record { few = old.few; within = old.within; heads = old.heads; links = old.links }, omega (arith, same))
+    (chained old, omega (arith, same))
 
 pub invariant_of-self : goal.invariant_of-self
 invariant_of-self c =
@@ -29,7 +29,7 @@ invariant_of-self c =
     let ws = c.roll_back.new.words in
     let same = ap (λ (d : Diagrams). d.fill) c.take-words.ensures in
     let ch : Chained ws c.roll_back.new.fill = subst (Chained ws) (sym back.fill) back.chained in
-    let olds = grown_sound (stored_grown old.words.now c.args.mark old.fill (omega (arith, same))) (sound_of _ old.sound) in
+    let olds = grown_sound (stored_grown old.words.now c.args.mark old.fill (omega (arith, same))) (standing old) in
     let so : Sound (stored ws c.roll_back.new.fill) = subst Sound (sym (ap (stored ws) back.fill ∙ back.stored)) olds in
     record {
       few = ch.few;

@@ -5,21 +5,21 @@ use Rattle.diagram.specs.Store.{Store, Sound}
 use Rattle.diagram.specs.Sweeping.{swept, wanted}
 use Rattle.diagram.specs.Words.{stored}
 use Rattle.diagram.proofs.Memos.{remembers_none}
-use Rattle.diagram.proofs.Once.{sound_of}
+use Rattle.diagram.proofs.Standing.{standing, chained}
 use Rattle.diagram.proofs.Sweeps.{swept_right, swept_moves, swept_left}
 use Rattle.diagram.proofs.diagrams.Diagrams.sweep.Goals as goal
 
 pub sweep-kept-requires : goal.sweep-kept-requires
 sweep-kept-requires c =
     let old = c.take-words.result in
-    record { chained = record { few = old.few; within = old.within; heads = old.heads; links = old.links }; sound = sound_of _ old.sound }
+    record { chained = chained old; sound = standing old }
 
 pub invariant_of-self : goal.invariant_of-self
 invariant_of-self c =
     let old = c.take-words.result in
-    let swept-so = c.sweep-kept.ensures in
-    let ch = swept-so.chained in
-    let so : Sound (stored c.sweep-kept.new.words c.sweep-kept.result) = subst Sound (sym swept-so.store) (swept_right (store_of old) (sound_of _ old.sound) (wanted c.args.roots.now)).sound in
+    let left = c.sweep-kept.ensures in
+    let ch = left.chained in
+    let so : Sound (stored c.sweep-kept.new.words c.sweep-kept.result) = subst Sound (sym left.store) (swept_right (store_of old) (standing old) (wanted c.args.roots.now)).sound in
     record {
       few = ch.few;
       within = ch.within;
@@ -41,7 +41,7 @@ returns c =
     record {
       is = is;
       roots = are;
-      moves = swept_moves (store_of was) roots t is (sound_of _ was.sound) c.sweep-kept.new.roots are;
+      moves = swept_moves (store_of was) roots t is (standing was) c.sweep-kept.new.roots are;
       fewer = swept_left (store_of was) roots t is;
       room = ap (λ n. n / 7) c.sweep-kept.auto.words ∙ ap room_of same;
     }
