@@ -33,6 +33,7 @@ policy_on k shelf.Empty = refuse k Empty
 policy_on k (shelf.Draft d) = Ok d
 policy_on k (shelf.Closed d l) = Ok d
 
+-- the policy on shelf k, draft or closed, or the refusal
 abbrev pub policy_at : State → ℕ → Result Draft Fault
 policy_at s k = then (shelf_at s k) (policy_on k)
 
@@ -42,6 +43,7 @@ closed_on k shelf.Empty = refuse k Empty
 closed_on k (shelf.Draft d) = refuse k NotClosed
 closed_on k (shelf.Closed d l) = Ok (d, l)
 
+-- the policy on shelf k and its lists, where it is closed, or the refusal
 abbrev pub closed_at : State → ℕ → Result (Draft × Lists) Fault
 closed_at s k = then (shelf_at s k) (closed_on k)
 
@@ -68,12 +70,15 @@ abbrev pub list_of : ℕ → ℕ → Result ℕ Fault
 list_of k zero = refuse k NotValid
 list_of k (suc x) = Ok (suc x)
 
+-- extend: the decisions that a closed shelf lists for the source's query, as a set
 abbrev pub extended : State → ℕ → Meaning → Result ℕ Fault
 extended s k m = then (closed_at s k) (λ c. list_of k (leaf_of s c.0 m c.1.lists))
 
+-- reach: what a closed shelf's diagram of reached queries says of the source's query
 abbrev pub reached : State → ℕ → Meaning → Result Bool Fault
 reached s k m = then (closed_at s k) (λ c. Ok (leaf_of s c.0 m c.1.reaches == 1))
 
+-- root: the reference of a closed shelf's diagram of lists
 abbrev pub rooted : State → ℕ → Result ℕ Fault
 rooted s k = then (closed_at s k) (λ c. Ok c.1.lists)
 
@@ -82,6 +87,7 @@ abbrev pub DraftStands : State → Result Draft Fault → Type 0
 DraftStands s (Ok d) = (d.pairs ≤ 48) × (d.valid < mark s.store) × (d.decides < mark s.store)
 DraftStands s (Err f) = Unit {0}
 
+-- the same of a closed shelf
 abbrev pub ClosedStands : State → Result (Draft × Lists) Fault → Type 0
 ClosedStands s (Ok c) = (c.0.pairs ≤ 48) × (c.1.lists < mark s.store) × (c.1.reaches < mark s.store)
 ClosedStands s (Err f) = Unit {0}

@@ -50,6 +50,7 @@ abbrev pub bind_row : Outcome → (Store → ℕ → Row) → Row
 bind_row full next = no_row
 bind_row (done s r) next = next s r
 
+-- building goes on from a row, if there was room for one
 abbrev pub with_row : Row → (Store → List ℕ → Outcome) → Outcome
 with_row no_row next = full
 with_row (row s xs) next = next s xs

@@ -41,9 +41,11 @@ draft_on k shelf.Empty = refuse k Empty
 draft_on k (shelf.Draft d) = Ok d
 draft_on k (shelf.Closed d l) = refuse k AlreadyClosed
 
+-- the policy on shelf k, where it is not closed yet, or the refusal
 abbrev pub draft_at : State → ℕ → Result Draft Fault
 draft_at s k = then (shelf_at s k) (draft_on k)
 
+-- close, by what was built for the policy d of shelf k; where the table was full, nothing has changed
 abbrev pub close_with : State → ℕ → Draft → Listing → Step (Unit {0})
 close_with s k d no_lists = full_at s k 0
 close_with s k d (lists_done t e r) = (put_shelf s t k (shelf.Closed d (record { lists = e; reaches = r })), Ok tt)

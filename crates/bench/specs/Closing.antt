@@ -14,6 +14,7 @@ pub data Listing : Type 0 where
   no_lists : Listing
   lists_done : Store → ℕ → ℕ → Listing
 
+-- building goes on after a reference, if there was room for it
 abbrev pub then_lists : Outcome → (Store → ℕ → Listing) → Listing
 then_lists full next = no_lists
 then_lists (done s r) next = next s r
@@ -22,6 +23,7 @@ then_lists (done s r) next = next s r
 abbrev pub set_entries : List ℕ
 set_entries = 0 ∷ 0 ∷ 0 ∷ 1 ∷ 2 ∷ 4 ∷ 0 ∷ 0 ∷ 0 ∷ []
 
+-- the set of a decision where validity is 1, else the empty set
 abbrev pub set_where : ℕ → ℕ → ℕ
 set_where valid decision = entry set_entries (3 * valid + decision)
 

@@ -7,11 +7,13 @@ use Rattle.bench.specs.declared.bench.Bench.{Bench}
 use Rattle.bench.specs.declared.shelf.Shelf.{Shelf}
 use Rattle.bench.specs.declared.shelf.Shelf.TheVariants as shelf
 
+-- what a call starts from, and what it leaves
 pub record State : Type 0 where
   pub room : ℕ
   pub store : Store
   pub shelves : List Shelf
 
+-- the state that a bench is in
 abbrev pub state_of : Bench → State
 state_of b = record { room = capacity b.words.now; store = stored b.words.now b.fill; shelves = b.shelves }
 

@@ -9,6 +9,7 @@ use Rattle.diagram.specs.Memo.{Empty}
 use Rattle.diagram.specs.Store.{Store, Query, mark, eval, Outcome, full, done}
 use Rattle.diagram.specs.Words.{Chained, stored}
 
+-- is r a reference into s, a leaf or a node?
 abbrev pub stands : Store → ℕ → Bool
 stands s r = nat_lt r (mark s)
 

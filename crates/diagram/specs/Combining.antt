@@ -6,6 +6,7 @@ use Rattle.diagram.specs.Store.{Store, node_of, top, low_part, high_part, Outcom
 abbrev pub low_at : Store → ℕ → ℕ → ℕ
 low_at s v r = cond (top s r == v) (low_part s r) r
 
+-- the high part at pair v; a reference that does not test v is its own
 abbrev pub high_at : Store → ℕ → ℕ → ℕ
 high_at s v r = cond (top s r == v) (high_part s r) r
 

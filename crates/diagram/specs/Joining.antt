@@ -9,6 +9,7 @@ unfoldable pub all : ℕ → (ℕ → Bool) → Bool
 all zero test = true
 all (suc n) test = test n && all n test
 
+-- what passes a test at all numbers below n passes it at each
 pub all_at : (n : ℕ) (test : ℕ → Bool) → all n test ≡ true → (x : ℕ) → x < n → test x ≡ true
 unfolding all
 all_at zero test e x h = absurd (omega arith)
@@ -19,12 +20,15 @@ all_at (suc n) test e x h =
     (λ (ne : x ≡ n → ⊥). all_at n test p.1 x (omega arith))
     (cases_eq x n)
 
+-- owed of three codes: the join is associative
 abbrev third : (ℕ → ℕ → ℕ) → ℕ → ℕ → ℕ → Bool
 third join x y z = join (join x y) z == join x (join y z)
 
+-- owed of two codes: the join is a code and commutative, and what is owed with each third
 abbrev second : ℕ → (ℕ → ℕ → ℕ) → ℕ → ℕ → Bool
 second codes join x y = nat_lt (join x y) codes && (join x y == join y x && all codes (third join x y))
 
+-- owed of a code: the join is idempotent, and what is owed with each second
 abbrev first : ℕ → (ℕ → ℕ → ℕ) → ℕ → Bool
 first codes join x = join x x == x && all codes (second codes join x)
 
@@ -56,6 +60,7 @@ pub either_joins : Joins 2 either
 unfolding all lawful
 either_joins = joins_by 2 either (omega arith) refl
 
+-- union is a join of the eight codes of sets
 pub union_joins : Joins 8 union
 unfolding all lawful
 union_joins = joins_by 8 union (omega arith) refl

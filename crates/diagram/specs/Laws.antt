@@ -57,6 +57,7 @@ TruthStillPossible =
     (room : ℕ) (s : Store) (a : ℕ) → Sound s → a < mark s → Coded 2 (eval s a) → (t : Store) (r : ℕ) → closed room s either a ≡ done t r →
     (q : Query) → (eval t r q ≡ 1) ↔ ContainedIn (λ p. eval s a p ≡ 1) q
 
+-- all of these together
 pub record Laws : Type 0 where
   pub extension : Extension
   pub dependence : Dependence

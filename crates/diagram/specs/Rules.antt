@@ -11,6 +11,7 @@ entry entries i = slice_index entries i % 8
 abbrev pub where_one : ℕ → ℕ → ℕ
 where_one x y = cond (x == 1) y 0
 
+-- the code that a rule makes of the codes x and y
 abbrev pub value_of : Rule → ℕ → ℕ → ℕ
 value_of (One entries) x y = entry entries x
 value_of (Two entries) x y = entry entries (3 * x + y)
@@ -22,6 +23,7 @@ unfoldable pub number : List ℕ → ℕ
 number [] = 0
 number (d ∷ ds) = d % 8 + 8 * number ds
 
+-- a digit of n to the base 8, counted from the lowest
 unfoldable pub digit : ℕ → ℕ → ℕ
 digit n zero = n % 8
 digit n (suc i) = digit (n / 8) i

@@ -1,6 +1,7 @@
 -- How three words are spread over places.
 use Rattle.std.specs.Prelude.{ℕ, ◌+◌, ◌*◌, ◌/◌, ◌%◌, ◌^◌}
 
+-- three words mixed into one, by multiplications modulo 2^32
 unfoldable pub hash : ℕ → ℕ → ℕ → ℕ
 hash x y z = (((((x * 2654435769) % 2 ^ 32 + y) % 2 ^ 32 * 2246822519) % 2 ^ 32 + z) % 2 ^ 32 * 3266489917) % 2 ^ 32
 

@@ -2,6 +2,7 @@
 use Rattle.std.specs.Prelude.{ℕ, ◌+◌, ◌<◌, Bool, cond, ◌&&◌, List, [], ◌∷◌, length, Some, None, Option, ◌==◌, ◌≢◌, nat_lt}
 use Rattle.diagram.specs.declared.node.Node.{Node}
 
+-- a table, as the list of its nodes, the newest first
 abbrev pub Store : Type 0
 Store = List Node
 
@@ -17,6 +18,7 @@ put q i b = λ j. cond (j == i) b (q j)
 abbrev pub mark : Store → ℕ
 mark s = 8 + length s
 
+-- the node of a pair, its low part and its high part
 abbrev pub node_of : ℕ → ℕ → ℕ → Node
 node_of v l h = record { pair = v; low = l; high = h }
 
@@ -25,10 +27,12 @@ abbrev pub top : Store → ℕ → ℕ
 top [] r = 48
 top (n ∷ s) r = cond (r == mark s) n.pair (top s r)
 
+-- the low part of the node that r refers to; a leaf is its own
 abbrev pub low_part : Store → ℕ → ℕ
 low_part [] r = r
 low_part (n ∷ s) r = cond (r == mark s) n.low (low_part s r)
 
+-- the high part, likewise
 abbrev pub high_part : Store → ℕ → ℕ
 high_part [] r = r
 high_part (n ∷ s) r = cond (r == mark s) n.high (high_part s r)
@@ -42,6 +46,7 @@ abbrev pub eval : Store → ℕ → Query → ℕ
 eval [] r q = r
 eval (n ∷ s) r q = cond (r == mark s) (eval s (part n q) q) (eval s r q)
 
+-- are two nodes equal?
 abbrev pub same : Node → Node → Bool
 same n m = n.pair == m.pair && (n.low == m.low && n.high == m.high)
 
@@ -55,6 +60,7 @@ pub data Outcome : Type 0 where
   full : Outcome
   done : Store → ℕ → Outcome
 
+-- building goes on after a reference, if there was room for it
 abbrev pub bind : Outcome → (Store → ℕ → Outcome) → Outcome
 bind full next = full
 bind (done s r) next = next s r

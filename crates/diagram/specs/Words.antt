@@ -8,6 +8,7 @@ use Rattle.diagram.specs.Store.{Store, node_of}
 abbrev pub capacity : List ℕ → ℕ
 capacity words = length words / 7
 
+-- node k, from the first three of its seven words
 abbrev pub node_at : List ℕ → ℕ → Node
 node_at words k = node_of (slice_index words (7 * k)) (slice_index words (7 * k + 1)) (slice_index words (7 * k + 2))
 
@@ -20,6 +21,7 @@ stored words (suc k) = node_at words k ∷ stored words k
 abbrev pub bucket : ℕ → Node → ℕ
 bucket many n = spread many n.pair n.low n.high
 
+-- the bucket of node k
 unfoldable pub bucket_at : List ℕ → ℕ → ℕ
 bucket_at words k = bucket (capacity words) (node_at words k)
 

@@ -15,11 +15,13 @@ prefixed code a = change_name code ++ (codes " " ++ a)
 abbrev pub infixed : ℕ → List ℕ → List ℕ → List ℕ
 infixed code a b = codes "(" ++ (a ++ (codes " " ++ (operator_name code ++ (codes " " ++ (b ++ codes ")")))))
 
+-- a target as a formula
 abbrev pub target_text : Context → t.Target → List ℕ
 target_text x (target_of_kind.Pair n) = pair_text x n
 target_text x (target_of_kind.Change' code b u) = prefixed code (target_text x u)
 target_text x (target_of_kind.Combine' code b u d v) = infixed code (target_text x u) (target_text x v)
 
+-- a policy as a formula
 abbrev pub policy_text : Context → q.Policy → List ℕ
 policy_text x (policy_of_kind.Always d) = constant_name d
 policy_text x (policy_of_kind.Change' code b r) = prefixed code (policy_text x r)

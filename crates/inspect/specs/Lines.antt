@@ -12,10 +12,12 @@ use Rattle.inspect.specs.Names.{change_name, operator_name, constant_name, attri
 abbrev pub newest_code : Context → ℕ
 newest_code x = 0x20 + (length x.operators - 1)
 
+-- digits, one after another
 unfoldable pub digits_text : List ℕ → List ℕ
 digits_text [] = []
 digits_text (d ∷ ds) = decimal d ++ digits_text ds
 
+-- these words, the limit and the attribute's name
 abbrev pub limit_text : Context → List ℕ → ℕ → ℕ → List ℕ
 limit_text x words limit number = words ++ (decimal limit ++ (codes " of " ++ attribute_text x number))
 
@@ -37,6 +39,7 @@ operands_text x (act end) = codes "end"
 abbrev pub line_text : Context → ℕ → Command → List ℕ
 line_text x place c = decimal place ++ (codes " " ++ (operands_text x c ++ (10 ∷ [])))
 
+-- how many bytes of operands an action has
 abbrev pub action_size : Action → ℕ
 action_size (push_pair i) = 1
 action_size (push d) = 0
@@ -67,6 +70,7 @@ pub record Listed (old new : Text) (first last : Reader) : Type 0 where
   pub text : Added old new (lines_text (context first) (place first) (ahead first).commands)
   pub known : context last ≡ after (context first) (ahead first).commands
 
+-- lists what a reader has ahead, unless memory is wanting
 abbrev pub Lists : {E : Type 0} → Result (Unit {0}) E → Text → Text → Reader → Reader → Type 0
 Lists (Ok u) old new first last = Listed old new first last
 Lists (Err e) old new first last = Unit {0}

@@ -29,6 +29,7 @@ operator_name code =
     cond (code == 0x25) (codes "op25") (
     cond (code == 0x26) (codes "op26") (codes "op27")))))))))))))
 
+-- the name of a decision
 abbrev pub constant_name : Decision → List ℕ
 constant_name Deny = codes "deny"
 constant_name Allow = codes "allow"
@@ -48,5 +49,6 @@ abbrev pub value_name : ℕ → Option p.Attribute → List ℕ
 value_name i None = []
 value_name i (Some a) = kept a.name ++ (codes "=" ++ decimal (i - a.start))
 
+-- a pair by its attribute and its value
 abbrev pub pair_text : Context → ℕ → List ℕ
 pair_text x i = value_name i (attribute_with x.attributes i)

@@ -12,17 +12,20 @@ use Rattle.inspect.specs.declared.formula.Policy.TheVariants as policy_of_kind
 use Rattle.inspect.specs.declared.formula.Item as i
 use Rattle.inspect.specs.declared.formula.Item.TheVariants as item_of_kind
 
+-- the target that the program's tree stands for
 abbrev pub target : Context → t.Target → p.Target
 target x (target_of_kind.Pair n) = target_of x.attributes n
 target x (target_of_kind.Change' code b u) = p.altered code (target x u)
 target x (target_of_kind.Combine' code b u d v) = p.joined (digits_of x.operators code) (target x u) (target x v)
 
+-- the policy that the program's tree stands for
 abbrev pub policy : Context → q.Policy → p.Policy
 policy x (policy_of_kind.Always d) = p.always d
 policy x (policy_of_kind.Change' code b r) = p.changed code (policy x r)
 policy x (policy_of_kind.Combine' code b r d s) = p.combined (digits_of x.operators code) (policy x r) (policy x s)
 policy x (policy_of_kind.Guard' u b r) = p.guarded (target x u) (policy x r)
 
+-- the item of the stack that the program's stands for
 abbrev pub item : Context → i.Item → Item
 item x (item_of_kind.Target u) = as_target (target x u)
 item x (item_of_kind.Policy r) = as_policy (policy x r)

@@ -2,6 +2,7 @@
 use Rattle.std.specs.Prelude.{◌≡◌, ℕ, List, ◌++◌, Ok, Err, string_bytes, Result}
 use Rattle.inspect.specs.declared.text.Text.{Text}
 
+-- the bytes that a text has so far
 abbrev pub written : Text → List ℕ
 written t = string_bytes t.text
 

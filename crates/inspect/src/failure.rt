@@ -1,3 +1,6 @@
+ghost use Rattle.std.specs.Prelude.{◌≡◌};
+ghost use Rattle.inspect.specs.declared.failure.Failure.TheVariants.{NoMemory};
+
 use std::alloc::{AllocError, AllocFailed};
 use std::error::Error;
 use std::fmt;
@@ -11,12 +14,16 @@ pub enum Failure {
 }
 
 impl From<AllocError> for Failure {
+    ghost from_gives = { λ e r. r ≡ NoMemory };
+
     fn from(_error: AllocError) -> Failure {
         Failure::NoMemory
     }
 }
 
 impl<T: Drop> From<AllocFailed<T>> for Failure {
+    ghost from_gives = { λ e r. r ≡ NoMemory };
+
     fn from(_refused: AllocFailed<T>) -> Failure {
         Failure::NoMemory
     }

@@ -73,12 +73,14 @@ pub data Action : Type 0 where
   guard : Action
   end : Action
 
+-- a command declares something, states a constraint, or acts on the stack
 pub data Command : Type 0 where
   attribute : List ℕ → ℕ → Command
   operator : Digits → Command
   restrict : Restriction → Command
   act : Action → Command
 
+-- is it the action that ends a file?
 abbrev pub is_last : Action → Bool
 is_last (push_pair i) = false
 is_last (push d) = false
@@ -94,9 +96,11 @@ is_end (operator ds) = false
 is_end (restrict r) = false
 is_end (act a) = is_last a
 
+-- the byte at place p
 abbrev pub byte : List ℕ → ℕ → ℕ
 byte file p = slice_index file p
 
+-- so many bytes, from a place on
 abbrev pub bytes_from : List ℕ → ℕ → ℕ → List ℕ
 bytes_from file from size = take size (drop from file)
 
@@ -117,11 +121,13 @@ command file p End = act end
 
 -- ---- what the declarations so far say
 
+-- what is declared so far: attributes, how many pairs they have together, own operators
 pub record Context : Type 0 where
   pub attributes : List p.Attribute
   pub pairs : ℕ
   pub operators : List Digits
 
+-- what is declared once a command is taken
 abbrev pub declares : Command → Context → Context
 declares (attribute name count) x =
     record {
@@ -135,6 +141,7 @@ declares (act a) x = x
 
 -- ---- are the operands allowed?
 
+-- 21 to 7E (hexadecimal)
 abbrev pub printable : ℕ → Bool
 printable b = nat_le 0x21 b && nat_le b 0x7E
 
@@ -162,6 +169,7 @@ unfoldable pub are_digits : List ℕ → Bool
 are_digits [] = true
 are_digits (d ∷ ds) = nat_le d 2 && are_digits ds
 
+-- what stands where a number has no attribute
 abbrev pub nobody : p.Attribute
 nobody = record { name = []; start = 0; count = 0 }
 
@@ -169,11 +177,13 @@ nobody = record { name = []; start = 0; count = 0 }
 abbrev pub limits : Context → ℕ → ℕ → Bool
 limits x a k = nat_lt a (length x.attributes) && nat_le k (slice_index_or x.attributes a nobody).count
 
+-- are the operands of a constraint within what is declared?
 abbrev pub restricts : Context → Restriction → Bool
 restricts x (exclusion i j) = nat_lt i x.pairs && (nat_lt j x.pairs && not (i == j))
 restricts x (most a k) = limits x a k
 restricts x (least a k) = limits x a k
 
+-- are the operands of an action allowed?
 abbrev pub acts : Context → Action → Bool
 acts x (push_pair i) = nat_lt i x.pairs
 acts x (push d) = true
@@ -182,6 +192,7 @@ acts x (combine code) = is_standard code || is_own x.operators code
 acts x guard = true
 acts x end = true
 
+-- are the operands of a command allowed, after these declarations?
 abbrev pub allowed : Context → Command → Bool
 allowed x (attribute name count) = is_name name && (fresh name x.attributes && (nat_le 1 count && nat_le (x.pairs + count) 48))
 allowed x (operator ds) = are_digits ds && nat_lt (length x.operators) 8
@@ -190,10 +201,12 @@ allowed x (act a) = acts x a
 
 -- ---- the kinds of the items on the stack, the last one pushed first
 
+-- is it the kind of a policy?
 abbrev pub is_policy : Kind → Bool
 is_policy Target = false
 is_policy Policy = true
 
+-- are both targets, or both policies?
 abbrev pub same_kind : Kind → Kind → Bool
 same_kind Target y = not (is_policy y)
 same_kind Policy y = is_policy y
@@ -224,6 +237,7 @@ turns (combine code) ks = two_alike ks
 turns guard ks = guarding ks
 turns end ks = Some ks
 
+-- the kinds on the stack once a command is taken, if the stack allows it
 abbrev pub kinds_after : Command → List Kind → Option (List Kind)
 kinds_after (attribute name count) ks = Some ks
 kinds_after (operator ds) ks = Some ks

@@ -7,6 +7,7 @@ use Rattle.policy.specs.Extended.{answer_code}
 use Rattle.policy.specs.Power.{swings, whole}
 use Rattle.policy.specs.Reading.{Reading, fault, well, reads}
 
+-- the bytes of the example file
 abbrev pub nationality_file : List ℕ
 nationality_file =
     0x50 ∷ 0x54 ∷ 0x41 ∷ 0x43 ∷ 0x01 ∷
@@ -14,6 +15,7 @@ nationality_file =
     0x4D ∷ 0x00 ∷ 0x01 ∷
     0x74 ∷ 0x00 ∷ 0x31 ∷ 0x67 ∷ 0x74 ∷ 0x01 ∷ 0x30 ∷ 0x67 ∷ 0x62 ∷ 0x12 ∷ 0x2E ∷ []
 
+-- its one attribute, of two pairs
 abbrev pub nat : Attribute
 nat = record { name = 0x6E ∷ 0x61 ∷ 0x74 ∷ 0 ∷ 0 ∷ 0 ∷ 0 ∷ 0 ∷ []; start = 0; count = 2 }
 
@@ -43,10 +45,12 @@ readings =
     ∷ reads (take 18 nationality_file ++ (0x74 ∷ 0x00 ∷ 0x6E ∷ 0x00 ∷ 0x30 ∷ 0x67 ∷ 0x2E ∷ []))
     ∷ []
 
+-- how many pairs a file that reads well has
 abbrev pub pairs_read : Reading → ℕ
 pairs_read (fault n p) = 0
 pairs_read (well f) = f.pairs
 
+-- the example, worked out
 pub record Worked : Type 0 where
   pub read : readings ≡ well nationality ∷ fault 4 28 ∷ fault 10 29 ∷ fault 7 15 ∷ fault 3 0 ∷ fault 3 3 ∷ fault 7 5 ∷ well negated ∷ []
   pub most_pairs : pairs_read (reads (slice_set nationality_file 14 0x30)) ≡ 48

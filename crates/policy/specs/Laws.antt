@@ -16,6 +16,7 @@ pub record Has (a : Attribute) (i : ℕ) : Type 0 where
 abbrev pub Missing : Attribute → Query → Type 0
 Missing a q = (i : ℕ) → Has a i → q i ≡ false
 
+-- the laws of every file that reads well
 pub record Lawful (f : File) : Type 0 where
   -- a decision and validity depend only on the pairs below n
   pub decision_by_pairs : (p q : Query) → Agree f.pairs p q → decision f p ≡ decision f q

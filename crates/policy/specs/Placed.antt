@@ -3,6 +3,7 @@ use Rattle.std.specs.Prelude.{◌≡◌, ℕ, ◌+◌, ◌<◌, ◌≤◌, true,
 use Rattle.policy.specs.declared.reader.Declaration.{Declaration}
 use Rattle.policy.specs.Commands.{bytes_from, are_digits}
 
+-- what stands where nothing is declared
 abbrev pub nothing : Declaration
 nothing = record { start = 0; count = 0; name = 0 }
 

@@ -21,18 +21,21 @@ pub data Target : Type 0 where
   -- a two-operand operator
   joined : Digits → Target → Target → Target
 
+-- A policy says what is decided.
 pub data Policy : Type 0 where
   always : Decision → Policy
   changed : ℕ → Policy → Policy
   combined : Digits → Policy → Policy → Policy
   guarded : Target → Policy → Policy
 
+-- A constraint says which queries are valid.
 pub data Constraint : Type 0 where
   -- two pairs that never hold together
   never_both : ℕ → ℕ → Constraint
   at_most : Attribute → ℕ → Constraint
   at_least : Attribute → ℕ → Constraint
 
+-- What a file that reads well says.
 pub record File : Type 0 where
   pub attributes : List Attribute
   -- how many pairs the attributes have together
@@ -63,11 +66,13 @@ decides (changed code p) q = change code (decides p q)
 decides (combined ds p r) q = apply ds (decides p q) (decides r q)
 decides (guarded t p) q = cond (value t q == 1) (decides p q) 2
 
+-- does the query keep the constraint?
 unfoldable pub meets : Constraint → Query → Bool
 meets (never_both i j) q = not (q i && q j)
 meets (at_most a k) q = nat_le (present a q) k
 meets (at_least a k) q = nat_le k (present a q)
 
+-- does it keep all of them?
 unfoldable pub meets_all : List Constraint → Query → Bool
 meets_all [] q = true
 meets_all (c ∷ cs) q = meets c q && meets_all cs q

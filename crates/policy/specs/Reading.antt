@@ -51,6 +51,7 @@ command_step k file p = cond (nat_le (length file) p) (refused 4 (length file)) 
 
 -- ---- the opening
 
+-- the first five bytes of every file
 abbrev pub opening : List ℕ
 opening = 0x50 ∷ 0x54 ∷ 0x41 ∷ 0x43 ∷ 0x01 ∷ []
 
@@ -79,6 +80,7 @@ step k file p = cond (k.part == 0) (first_step k file p) (command_step k file p)
 
 -- ---- the whole file
 
+-- where reading stops: refused, with a number and a place, or at the end, with what was read
 pub data Stop : Type 0 where
   stopped : ℕ → ℕ → Stop
   ended : Progress → Stop
@@ -88,9 +90,11 @@ pub record Scan : Type 0 where
   pub commands : List Command
   pub stop : Stop
 
+-- a command, and then the rest
 abbrev pub before : Command → Scan → Scan
 before c s = record { commands = c ∷ s.commands; stop = s.stop }
 
+-- reading goes on after a step, unless that was refused or took the end
 abbrev pub goes_on : Step → (Progress → ℕ → Scan) → Scan
 goes_on (refused n p) next = record { commands = []; stop = stopped n p }
 goes_on (took c k p) next = cond (is_end c) (record { commands = c ∷ []; stop = ended k }) (before c (next k p))
@@ -100,25 +104,30 @@ unfoldable pub scan : ℕ → Progress → List ℕ → ℕ → Scan
 scan zero k file p = record { commands = []; stop = stopped 4 (length file) }
 scan (suc n) k file p = goes_on (step k file p) (λ k' q. scan n k' file q)
 
+-- the whole file
 unfoldable pub scan_file : List ℕ → Scan
 scan_file file = scan (suc (length file)) unopened file 5
 
+-- the commands of a file, up to its end or its first fault
 abbrev pub commands_of : List ℕ → List Command
 commands_of file = (scan_file file).commands
 
 -- ---- the File that the commands stand for
 
+-- the constraint that a restriction states
 abbrev pub constraint : Context → Restriction → p.Constraint
 constraint x (exclusion i j) = p.never_both i j
 constraint x (most a k) = p.at_most (slice_index_or x.attributes a nobody) k
 constraint x (least a k) = p.at_least (slice_index_or x.attributes a nobody) k
 
+-- the constraints, with the one that a command states before them
 abbrev pub constrains : Context → Command → List p.Constraint → List p.Constraint
 constrains x (attribute name count) l = l
 constrains x (operator ds) l = l
 constrains x (restrict r) l = constraint x r ∷ l
 constrains x (act a) l = l
 
+-- the constraints that commands state, in their order
 unfoldable pub constraints_of : Context → List Command → List p.Constraint
 constraints_of x [] = []
 constraints_of x (c ∷ cs) = constrains x c (constraints_of (declares c x) cs)
@@ -137,6 +146,7 @@ attribute_with (a ∷ ats) i = cond (nat_lt i (a.start + a.count)) (Some a) (att
 abbrev pub target_of : List p.Attribute → ℕ → p.Target
 target_of ats i = p.pair (unwrap_or (attribute_with ats i) nobody) i
 
+-- a one-operand code on the top item
 abbrev pub changes : ℕ → List Item → List Item
 changes code [] = []
 changes code (as_target t ∷ s) = as_target (p.altered code t) ∷ s
@@ -151,6 +161,7 @@ combines ds (as_target u ∷ as_policy r ∷ s) = []
 combines ds (as_policy q ∷ as_target t ∷ s) = []
 combines ds (as_policy q ∷ as_policy r ∷ s) = as_policy (p.combined ds r q) ∷ s
 
+-- the policy on top, under the target below it
 abbrev pub guards : List Item → List Item
 guards [] = []
 guards (y ∷ []) = []
@@ -158,6 +169,7 @@ guards (as_target u ∷ y ∷ s) = []
 guards (as_policy r ∷ as_target t ∷ s) = as_policy (p.guarded t r) ∷ s
 guards (as_policy r ∷ as_policy q ∷ s) = []
 
+-- what an action makes of the stack
 abbrev pub does : Context → Action → List Item → List Item
 does x (push_pair i) s = as_target (target_of x.attributes i) ∷ s
 does x (push d) s = as_policy (p.always d) ∷ s
@@ -166,6 +178,7 @@ does x (combine code) s = combines (digits_of x.operators code) s
 does x guard s = guards s
 does x end s = s
 
+-- what a command makes of the stack
 abbrev pub puts : Context → Command → List Item → List Item
 puts x (attribute name count) s = s
 puts x (operator ds) s = s
@@ -183,6 +196,7 @@ top [] = p.always NotApplicable
 top (as_target t ∷ s) = p.always NotApplicable
 top (as_policy r ∷ s) = r
 
+-- the file that commands stand for
 abbrev pub file_of : List Command → Context → p.File
 file_of cs x =
     record {
@@ -198,9 +212,11 @@ pub data Reading : Type 0 where
   fault : ℕ → ℕ → Reading
   well : p.File → Reading
 
+-- a fault, or a file that reads well
 abbrev pub read_as : List Command → Stop → Reading
 read_as cs (stopped n p) = fault n p
 read_as cs (ended k) = well (file_of cs k.context)
 
+-- what the bytes read to
 abbrev pub reads : List ℕ → Reading
 reads file = read_as (scan_file file).commands (scan_file file).stop

@@ -3,6 +3,7 @@ use Rattle.std.specs.Prelude.{ℕ}
 use Rattle.policy.specs.declared.fault.ReadFault.{ReadFault}
 use Rattle.policy.specs.declared.fault.ReadFault.TheVariants.{TooLong, Opening, CutShort, UnknownCommand, EarlierPart, Operand, Items, StackFull, Ending}
 
+-- the number of a refusal
 abbrev pub number : ReadFault → ℕ
 number TooLong = 2
 number (Opening p) = 3

@@ -6,6 +6,7 @@ use Rattle.std.specs.Prelude.{ℕ, ◌+◌, ◌-◌, ◌*◌, Bool, cond, ◌&&�
 use Rattle.policy.specs.declared.decision.Decision.{Decision}
 use Rattle.policy.specs.declared.decision.Decision.TheVariants.{Deny, Allow, NotApplicable}
 
+-- 0, 1 or 2
 abbrev pub Value : Type 0
 Value = ℕ
 
@@ -30,6 +31,7 @@ Digits = List ℕ
 abbrev pub one_operand : List Digits
 one_operand = (1 ∷ 0 ∷ 2 ∷ []) ∷ (0 ∷ 2 ∷ 1 ∷ []) ∷ (0 ∷ 1 ∷ 0 ∷ []) ∷ []
 
+-- a one-operand code on a value
 unfoldable pub change : ℕ → Value → Value
 change code v = slice_index (slice_index_or one_operand code []) v
 
@@ -49,6 +51,7 @@ standard =
     ∷ (0 ∷ 1 ∷ 0 ∷ 1 ∷ 1 ∷ 1 ∷ 0 ∷ 1 ∷ 2 ∷ [])
     ∷ []
 
+-- the codes 10 to 15 (hexadecimal)
 abbrev pub is_standard : ℕ → Bool
 is_standard code = nat_le 0x10 code && nat_le code 0x15
 

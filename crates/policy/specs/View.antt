@@ -18,6 +18,7 @@ use Rattle.policy.specs.Commands as c
 use Rattle.policy.specs.Reading.{Progress, Step, refused, took, step, command_step, checked, Scan, scan, Reading, fault, well}
 use Rattle.policy.specs.Refusals.{number, place as fault_place}
 
+-- the command that a value of the code stands for
 abbrev pub command : Command → c.Command
 command (code.Attribute name count) = c.attribute name.now count
 command (code.Operator digits) = c.operator digits.now
@@ -36,6 +37,7 @@ abbrev pub stacked : List Kind → ℕ → List Kind
 stacked ks zero = []
 stacked ks (suc n) = slice_index_or ks n Target ∷ stacked ks n
 
+-- the kinds on the stack, the top first
 abbrev pub stack : Kinds → List Kind
 stack k = stacked k.items k.depth
 
@@ -46,18 +48,23 @@ StandardRow (Some row) code = (is_standard code ≡ true) × (row.entries ≡ sl
 
 -- ---- the reader
 
+-- the file that a reader reads
 abbrev pub bytes : Reader → List ℕ
 bytes r = r.file.now
 
+-- where a reader's next command begins
 abbrev pub place : Reader → ℕ
 place r = r.place
 
+-- the attribute of a declaration; its name stands in the file
 abbrev pub declared_attribute : List ℕ → Declaration → p.Attribute
 declared_attribute file d = record { name = c.bytes_from file d.name 8; start = d.start; count = d.count }
 
+-- the digits of an own operator; they stand in the file
 abbrev pub own_digits : List ℕ → ℕ → Digits
 own_digits file from = c.bytes_from file from 9
 
+-- what a reader has met of declarations
 abbrev pub context : Reader → c.Context
 context r =
     record {
@@ -66,6 +73,7 @@ context r =
       operators = map (own_digits (bytes r)) (take r.operators r.own);
     }
 
+-- how far a reader is
 abbrev pub progress : Reader → Progress
 progress r = record { part = r.part; context = context r; kinds = stack r.kinds }
 
@@ -74,9 +82,11 @@ abbrev pub told : Result Command ReadFault → Reader → Step
 told (Ok x) r = took (command x) (progress r) (place r)
 told (Err f) r = refused (number f) (fault_place f)
 
+-- the next step of a reader
 abbrev pub next_step : Reader → Step
 next_step r = step (progress r) (bytes r) (place r)
 
+-- the next step of a reader that has looked at the opening
 abbrev pub next_command : Reader → Step
 next_command r = command_step (progress r) (bytes r) (place r)
 
@@ -86,6 +96,7 @@ pub record Opened (r : Reader) : Type 0 where
   pub within : place r ≤ length (bytes r)
   pub is : next_step r ≡ next_command r
 
+-- the opening is in order, or refused so
 abbrev pub Opens : Result (Unit {0}) ReadFault → Reader → Type 0
 Opens (Ok u) r = Opened r
 Opens (Err f) r = next_step r ≡ refused (number f) (fault_place f)
@@ -94,10 +105,12 @@ Opens (Err f) r = next_step r ≡ refused (number f) (fault_place f)
 abbrev pub Room : Opcode → Reader → Type 0
 Room o r = place r + 1 + c.size o ≤ length (bytes r)
 
+-- a command begins with this opcode, and its operands are there; the checks of them are left
 pub record Begun (o : Opcode) (r : Reader) : Type 0 where
   pub room : Room o r
   pub is : next_command r ≡ checked (progress r) (bytes r) (place r) o (c.command (bytes r) (place r) o)
 
+-- a command begins so, or is refused so
 abbrev pub Begins : Result Opcode ReadFault → Reader → Type 0
 Begins (Ok o) r = Begun o r
 Begins (Err f) r = next_command r ≡ refused (number f) (fault_place f)
@@ -112,6 +125,7 @@ pub record Settled (o : Opcode) (x : c.Command) (ks : Kinds) (r : Reader) : Type
   pub few : ks.depth ≤ 16
   pub is : checked (progress r) (bytes r) (place r) o x ≡ took x (after r o x ks) (place r + 1 + c.size o)
 
+-- the checks pass with these kinds, or refuse so
 abbrev pub Settles : Opcode → c.Command → Result Kinds ReadFault → Reader → Type 0
 Settles o x (Ok ks) r = Settled o x ks r
 Settles o x (Err f) r = checked (progress r) (bytes r) (place r) o x ≡ refused (number f) (fault_place f)
@@ -135,6 +149,7 @@ ahead r = scan (suc (length (bytes r))) (progress r) (bytes r) (place r)
 
 -- ---- what was declared
 
+-- the attribute that a value of the code stands for
 abbrev pub attribute : Attribute → p.Attribute
 attribute a = record { name = a.name.now; start = a.start; count = a.count }
 

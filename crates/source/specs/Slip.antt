@@ -6,6 +6,7 @@ use Rattle.std.proofs.lemmas.Nat.{mod_below}
 use Rattle.std.proofs.lemmas.Bool.{cond-false, and_right, le-ltb}
 use Rattle.source.specs.Meanings.{Meaning, labelled}
 
+-- the label of the first entry for a pair; an entry is a pair and a label, and a last odd byte is none
 unfoldable pub slip_label : List ℕ → ℕ → Option ℕ
 slip_label [] i = None
 slip_label (p ∷ []) i = None
@@ -23,6 +24,7 @@ HoldsEveryMeaning = (m : Meaning) → HeldBySlip m
 
 -- ---- the laws that it owes
 
+-- it is one byte
 pub slip_byte : (bs : List ℕ) (i x : ℕ) → slip_label bs i ≡ Some x → x < 256
 unfolding slip_label
 slip_byte [] i x e = absurd (let z : ◌≡◌ {A = ℕ} 0 1 = cc in omega arith)
@@ -33,11 +35,13 @@ slip_byte (p ∷ l ∷ rest) i x e = by (p == i && nat_lt i 48) e (slip_byte res
     by true e later = let below = mod_below l 256 (lit< tt) in let s : l % 256 ≡ x = cc in omega arith
     by false e later = later e
 
+-- nothing is told above pair 47
 pub slip_silent : (bs : List ℕ) (i : ℕ) → 48 ≤ i → slip_label bs i ≡ None
 unfolding slip_label
 slip_silent [] i h = refl
 slip_silent (p ∷ []) i h = refl
 slip_silent (p ∷ l ∷ rest) i h = cond-false _ _ _ (and_right (p == i) _ (le-ltb _ _ h)) ∙ slip_silent rest i h
 
+-- what a slip means
 abbrev pub slip : List ℕ → Meaning
 slip bytes = record { label = slip_label bytes; one_byte = slip_byte bytes; silent_above = slip_silent bytes }

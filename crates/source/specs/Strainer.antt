@@ -3,10 +3,12 @@ use Rattle.std.specs.Prelude.{◌≡◌, ℕ, ◌<◌, Bool, true, false, cond, 
 use Rattle.std.proofs.Common.{ap, arith}
 use Rattle.source.specs.Meanings.{Meaning}
 
+-- is l one of these?
 unfoldable pub among : List ℕ → ℕ → Bool
 among [] l = false
 among (x ∷ xs) l = x == l || among xs l
 
+-- the label, if it is one of the first eight that are listed
 abbrev pub strained : List ℕ → Option ℕ → Option ℕ
 strained labels None = None
 strained labels (Some l) = cond (among (take 8 labels) l) (Some l) None
@@ -17,13 +19,16 @@ only : (b : Bool) (x l : ℕ) → cond b (Some x) None ≡ Some l → Some x ≡
 only true x l e = e
 only false x l e = absurd (let z : ◌≡◌ {A = ℕ} 0 1 = cc in omega arith)
 
+-- it is one byte
 pub strained_byte : (labels : List ℕ) (x : Option ℕ) (l : ℕ) → (x ≡ Some l → l < 256) → strained labels x ≡ Some l → l < 256
 strained_byte labels None l f e = f e
 strained_byte labels (Some x) l f e = f (only (among (take 8 labels) x) x l e)
 
+-- there is none where there was none
 pub strained_silent : (labels : List ℕ) (x : Option ℕ) → x ≡ None → strained labels x ≡ None
 strained_silent labels x e = ap (strained labels) e
 
+-- what a strainer over a source means
 abbrev pub strainer : List ℕ → Meaning → Meaning
 strainer labels below =
     record {
