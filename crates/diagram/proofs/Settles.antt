@@ -1,5 +1,5 @@
 -- What building leaves, once what was made on the way to a full table is taken away again.
-use Rattle.std.proofs.Common.{◌≡◌, ℕ, true, List, is_err, Ok, Err, Result, refl, ◌∙◌}
+use Rattle.std.proofs.Common.{◌≡◌, ℕ, true, List, is_err, Ok, Err, Result}
 use Rattle.std.proofs.lemmas.Bool.{false≢true}
 use Rattle.diagram.specs.declared.table.TableFull.{TableFull}
 use Rattle.diagram.specs.Calls.{Settled}
