@@ -2,12 +2,12 @@
 #![tactic(auto)]
 
 #[cfg(test)]
-mod bench;
-#[cfg(test)]
 mod closing;
 #[cfg(test)]
 mod diagrams;
 #[cfg(test)]
 mod reading;
+#[cfg(test)]
+mod shelves;
 #[cfg(test)]
 mod sources;
