@@ -5,4 +5,5 @@ pub mod Showing
 pub mod Parts
 pub mod Lining
 pub mod Stacking
+pub mod Allowing
 pub mod Reporting

@@ -1,8 +1,10 @@
 // What is printed of a file.
-ghost use Rattle.std.specs.Prelude.{◌≡◌, true, IfOk, OnOk};
+ghost use Rattle.std.specs.Prelude.{◌≡◌, true, IfOk, IsOkUnless, OnOk};
 ghost use Rattle.policy.specs.Reading.{reads};
 ghost use Rattle.policy.specs.Refusals as refusals;
 ghost use Rattle.policy.specs.View as view;
+ghost use Rattle.inspect.specs.declared.failure.Failure.TheVariants.{NoMemory};
+ghost use Rattle.inspect.specs.Kinds.{NeedsMemoryAlone};
 ghost use Rattle.inspect.specs.Plain.{all_plain};
 ghost use Rattle.inspect.specs.Reports.{refusal_line, Formulated, Accounts, Reports};
 ghost use Rattle.inspect.specs.Written.{written};
@@ -30,7 +32,8 @@ fn refusal(heap: Global, fault: ReadFault) -> Result<Text, AllocError>
 
 // The formula of a file that reads well; the reader knows all that the file declares.
 fn add_formula(heap: Global, text: &mut Text, reader: &Reader, file: &[u8]) -> Result<(), Failure>
-    ensures { OnOk result (Formulated text.old text.new (view.context reader.now) (reads file.now)) }
+    ensures exact { OnOk result (Formulated text.old text.new (view.context reader.now) (reads file.now)) }
+    ensures memory { NeedsMemoryAlone result (reads file.now) }
 {
     text.add("formula: ")?;
     let policy = formula(heap, file)?;
@@ -40,7 +43,8 @@ fn add_formula(heap: Global, text: &mut Text, reader: &Reader, file: &[u8]) -> R
 
 // The commands, the formula and the number of pairs of a file that reads well.
 fn account(heap: Global, file: &[u8], pairs: u8) -> Result<Text, Failure>
-    ensures { IfOk result (λ t. Accounts (written t) file.now pairs (reads file.now)) }
+    ensures exact { IfOk result (λ t. Accounts (written t) file.now pairs (reads file.now)) }
+    ensures memory { NeedsMemoryAlone result (reads file.now) }
 {
     let mut text = Text::new(heap);
     let mut reader = Reader::new(file);
@@ -56,6 +60,7 @@ fn account(heap: Global, file: &[u8], pairs: u8) -> Result<Text, Failure>
 pub(crate) fn report(heap: Global, file: &[u8]) -> Result<Text, Failure>
     ensures exact { IfOk result (λ t. Reports (written t) file.now (reads file.now)) }
     ensures plain { IfOk result (λ t. all_plain (written t) ≡ true) }
+    ensures memory { IsOkUnless result NoMemory }
 {
     match check(file) {
         Ok(pairs) => account(heap, file, pairs),

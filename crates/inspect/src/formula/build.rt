@@ -1,8 +1,10 @@
-ghost use Rattle.std.specs.Prelude.{◌≡◌, [], ◌∷◌, ◌++◌, IfOk, OnOk};
-ghost use Rattle.policy.specs.Commands.{Context};
+ghost use Rattle.std.specs.Prelude.{◌≡◌, [], ◌∷◌, ◌++◌, Err, IfOk, OnErr, OnOk};
+ghost use Rattle.policy.specs.Commands.{Context, guarding, one_item, two_alike};
 ghost use Rattle.policy.specs.Reading.{reads, changes, combines, guards, puts};
 ghost use Rattle.policy.specs.Values.{digits_of};
 ghost use Rattle.policy.specs.View as view;
+ghost use Rattle.inspect.specs.declared.failure.Failure.TheVariants.{Items};
+ghost use Rattle.inspect.specs.Kinds.{Allows, NeedsMemoryAlone, Turns, kind_of};
 ghost use Rattle.inspect.specs.Trees as trees;
 ghost use Rattle.inspect.specs.Trees.{Becomes, Builds};
 
@@ -13,7 +15,8 @@ use std::alloc::Global;
 
 // An item after a one-operand code.
 fn changed(heap: Global, code: u8, item: Item) -> Result<Item, Failure>
-    ensures { Becomes result (λ x s. changes code (trees.item x item ∷ s)) }
+    ensures tree { Becomes result (λ x s. changes code (trees.item x item ∷ s)) }
+    ensures kind { Turns result (λ ks. one_item (kind_of item ∷ ks)) }
 {
     match item {
         Item::Target(target) => {
@@ -29,7 +32,8 @@ fn changed(heap: Global, code: u8, item: Item) -> Result<Item, Failure>
 
 // Two items of one kind under a two-operand code.
 fn combined(heap: Global, code: u8, first: Item, second: Item) -> Result<Item, Failure>
-    ensures { Becomes result (λ x s. combines (digits_of x.operators code) (trees.item x second ∷ trees.item x first ∷ s)) }
+    ensures tree { Becomes result (λ x s. combines (digits_of x.operators code) (trees.item x second ∷ trees.item x first ∷ s)) }
+    ensures kind { Turns result (λ ks. two_alike (kind_of second ∷ kind_of first ∷ ks)) }
 {
     match (first, second) {
         (Item::Target(a), Item::Target(b)) => {
@@ -48,7 +52,8 @@ fn combined(heap: Global, code: u8, first: Item, second: Item) -> Result<Item, F
 
 // A policy under the target that guards it.
 fn guarded(heap: Global, first: Item, second: Item) -> Result<Item, Failure>
-    ensures { Becomes result (λ x s. guards (trees.item x second ∷ trees.item x first ∷ s)) }
+    ensures tree { Becomes result (λ x s. guards (trees.item x second ∷ trees.item x first ∷ s)) }
+    ensures kind { Turns result (λ ks. guarding (kind_of second ∷ kind_of first ∷ ks)) }
 {
     match (first, second) {
         (Item::Target(target), Item::Policy(policy)) => {
@@ -60,14 +65,16 @@ fn guarded(heap: Global, first: Item, second: Item) -> Result<Item, Failure>
 }
 
 fn popped(items: &mut Vec<Item>) -> Result<Item, Failure>
-    ensures { IfOk result (λ item. items.old.items ≡ items.new.items ++ (item ∷ [])) }
+    ensures last { IfOk result (λ item. items.old.items ≡ items.new.items ++ (item ∷ [])) }
+    ensures none { OnErr result ((result ≡ Err Items) × (items.old.items ≡ [])) }
 {
     items.pop().ok_or(Failure::Items)
 }
 
 // What a command does to the stack, whose last item is at the end.
 fn act(heap: Global, items: &mut Vec<Item>, taken: Command) -> Result<(), Failure>
-    ensures { OnOk result ((x : Context) → trees.stack x items.new.items ≡ puts x (view.command taken.entry) (trees.stack x items.old.items)) }
+    ensures tree { OnOk result ((x : Context) → trees.stack x items.new.items ≡ puts x (view.command taken.entry) (trees.stack x items.old.items)) }
+    ensures kinds { Allows result (view.command taken.entry) items.old.items items.new.items }
 {
     let item = match taken {
         Command::Pair { pair } => Item::Target(Target::Pair(pair)),
@@ -94,7 +101,8 @@ fn act(heap: Global, items: &mut Vec<Item>, taken: Command) -> Result<(), Failur
 
 // The tree of the policy of a file that reads well.
 pub(crate) fn formula(heap: Global, file: &[u8]) -> Result<Policy, Failure>
-    ensures { Builds result (reads file.now) }
+    ensures tree { Builds result (reads file.now) }
+    ensures memory { NeedsMemoryAlone result (reads file.now) }
 {
     let mut items = Vec::new(heap);
     let mut commands = Commands::of(file);
