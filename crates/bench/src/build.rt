@@ -19,10 +19,9 @@ fn node(diagrams: &mut Diagrams, pair: u32, low: u32, high: u32) -> Result<u32, 
     ensures room { room_of diagrams.new ≡ room_of diagrams.old }
     ensures grown { Grown (store_of diagrams.old) (store_of diagrams.new) }
 {
-    match diagrams.make(Node { pair, low, high }) {
-        Ok(r) => Ok(r),
-        Err(_) => Err(TableFull),
-    }
+    diagrams
+        .make(Node { pair, low, high })
+        .map_err(|_| TableFull)
 }
 
 // `high` where one of the pairs from `first` to before `end` is present, else `low`.

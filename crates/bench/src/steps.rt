@@ -19,10 +19,7 @@ pub(crate) fn combine(diagrams: &mut Diagrams, rule: Rule, a: u32, b: u32) -> Re
     ensures grown { Grown (store_of diagrams.old) (store_of diagrams.new) }
     ensures means { Gives (store_of diagrams.new) (λ q. value_of rule (eval (store_of diagrams.old) a q) (eval (store_of diagrams.old) b q)) result }
 {
-    match diagrams.combine(rule, a, b) {
-        Ok(r) => Ok(r),
-        Err(_) => Err(TableFull),
-    }
+    diagrams.combine(rule, a, b).map_err(|_| TableFull)
 }
 
 // A diagram that stands, closed by the join of a kind: only a full table can refuse.
@@ -33,8 +30,5 @@ pub(crate) fn close<K: Kind>(diagrams: &mut Diagrams, a: u32) -> Result<u32, Tab
     ensures grown { Grown (store_of diagrams.old) (store_of diagrams.new) }
     ensures means { Closes K.Kind.codes K.Kind.join (store_of diagrams.old) a (store_of diagrams.new) result }
 {
-    match diagrams.close::<K>(a) {
-        Ok(r) => Ok(r),
-        Err(_) => Err(TableFull),
-    }
+    diagrams.close::<K>(a).map_err(|_| TableFull)
 }

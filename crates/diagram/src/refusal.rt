@@ -1,3 +1,8 @@
+ghost use Rattle.std.specs.Prelude.{◌≡◌};
+ghost use Rattle.diagram.specs.declared.refusal.Refusal.TheVariants.{Full};
+
+use crate::table::TableFull;
+
 // Why a call on diagrams was refused.
 #[derive(Clone, Copy, Debug, PartialEq, Eq)]
 pub enum Refusal {
@@ -7,4 +12,12 @@ pub enum Refusal {
     Unordered,
     // The table has no room for a node that is needed.
     Full,
+}
+
+impl From<TableFull> for Refusal {
+    ghost from_gives = { λ e r. r ≡ Full };
+
+    fn from(_full: TableFull) -> Refusal {
+        Refusal::Full
+    }
 }

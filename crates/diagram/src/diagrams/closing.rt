@@ -26,9 +26,6 @@ impl<'m> Diagrams<'m> {
         let mut fill = fill;
         let built = close_or_none::<K>(words, &mut fill, memo, a);
         *self = Diagrams { words, memo, fill };
-        match built {
-            Ok(r) => Ok(r),
-            Err(_) => Err(Refusal::Full),
-        }
+        Ok(built?)
     }
 }
