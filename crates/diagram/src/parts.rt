@@ -21,7 +21,8 @@ pub(crate) fn top_of(words: &[u32], r: u32) -> u32
 
 // What a reference comes to once the pair v is absent.
 pub(crate) fn low_of(words: &[u32], v: u32, r: u32) -> u32
-    requires { (r < 8 + capacity words.now) × (v < 48) }
+    requires stands { r < 8 + capacity words.now }
+    requires small { v < 48 }
     ensures { (fill : ℕ) → r < 8 + fill → result ≡ low_at (stored words.now fill) v r }
 {
     if r < LEAVES {
@@ -33,7 +34,8 @@ pub(crate) fn low_of(words: &[u32], v: u32, r: u32) -> u32
 
 // What a reference comes to once the pair v is present.
 pub(crate) fn high_of(words: &[u32], v: u32, r: u32) -> u32
-    requires { (r < 8 + capacity words.now) × (v < 48) }
+    requires stands { r < 8 + capacity words.now }
+    requires small { v < 48 }
     ensures { (fill : ℕ) → r < 8 + fill → result ≡ high_at (stored words.now fill) v r }
 {
     if r < LEAVES {

@@ -3,7 +3,8 @@ ghost use Rattle.diagram.specs.Spread.{spread as place};
 
 // Spreads three words over so many places, by multiplications and one shift.
 pub(crate) fn spread(many: usize, x: u32, y: u32, z: u32) -> usize
-    requires { (0 < many) × (many ≤ 65536) }
+    requires some { 0 < many }
+    requires few { many ≤ 65536 }
     ensures is { result ≡ place many x y z }
     ensures below { result < many }
 {

@@ -13,7 +13,8 @@ pub struct TableFull;
 
 // The bucket of a node.
 pub(crate) fn bucket_of(many: usize, node: Node) -> usize
-    requires { (0 < many) × (many ≤ 65536) }
+    requires some { 0 < many }
+    requires few { many ≤ 65536 }
     ensures is { result ≡ bucket many node }
     ensures below { result < many }
 {
@@ -23,7 +24,8 @@ pub(crate) fn bucket_of(many: usize, node: Node) -> usize
 // The reference of the node that equals this one, by a walk along its bucket's chain.
 fn find(words: &[u32], fill: usize, b: usize, node: Node) -> Option<u32>
     requires chained { Chained words.now fill }
-    requires here { (b ≡ bucket (capacity words.now) node) × (b < capacity words.now) }
+    requires here { b ≡ bucket (capacity words.now) node }
+    requires below { b < capacity words.now }
     ensures { result ≡ found (stored words.now fill) node }
 {
     let mut at = words[SIZE * b + HEAD] as usize;
@@ -41,7 +43,8 @@ fn find(words: &[u32], fill: usize, b: usize, node: Node) -> Option<u32>
 fn add(words: &mut [u32], fill: usize, b: usize, node: Node)
     requires chained { Chained words.old fill }
     requires room { fill < capacity words.old }
-    requires here { (b ≡ bucket (capacity words.old) node) × (b < capacity words.old) }
+    requires here { b ≡ bucket (capacity words.old) node }
+    requires below { b < capacity words.old }
     ensures chained { Chained words.new (fill + 1) }
     ensures stored { stored words.new (fill + 1) ≡ node ∷ stored words.old fill }
 {
@@ -84,7 +87,8 @@ pub(crate) fn make(words: &mut [u32], fill: &mut usize, node: Node) -> Result<u3
 
 // Takes the newest nodes away, down to the mark, and out of their chains.
 pub(crate) fn roll_back(words: &mut [u32], fill: &mut usize, mark: usize)
-    requires { (Chained words.old fill.old) × (mark ≤ fill.old) }
+    requires chained { Chained words.old fill.old }
+    requires later { mark ≤ fill.old }
     ensures chained { Chained words.new mark }
     ensures fill { fill.new ≡ mark }
     ensures stored { stored words.new mark ≡ stored words.old mark }

@@ -76,7 +76,8 @@ impl<'m> Bench<'m> {
 
     // The leaf that the source's query comes to.
     fn leaf<S: Source>(&self, draft: Draft, source: &S, a: u32) -> u32
-        requires { (draft.pairs ≤ 48) × (a < mark (state_of self.now).store) }
+        requires few { draft.pairs ≤ 48 }
+        requires stands { a < mark (state_of self.now).store }
         ensures is { result ≡ leaf_of (state_of self.now) draft (S.Source.meaning source.now) a }
         ensures code { result < 8 }
     {

@@ -8,7 +8,7 @@ use Rattle.diagram.proofs.parts.low_of.Goals as goal
 pub returns-then-r-lt-LEAVES : goal.returns-then-r-lt-LEAVES
 returns-then-r-lt-LEAVES c fill stands =
     let s = stored c.args.words.now fill in
-    low_other s c.args.v c.args.r (λ e. omega (arith, top_leaf s c.args.r c.if-r-lt-LEAVES.true, c.requires.1))
+    low_other s c.args.v c.args.r (λ e. omega (arith, top_leaf s c.args.r c.if-r-lt-LEAVES.true, c.requires.small))
 
 pub returns-then-words-k : goal.returns-then-words-k
 returns-then-words-k c fill stands =

@@ -5,7 +5,7 @@ use Rattle.diagram.proofs.Words.{length-stored}
 use Rattle.diagram.proofs.probe.combines_to.Goals as goal
 
 pub roll_back-requires : goal.roll_back-requires
-roll_back-requires c = (c.combine-built.ensures.kept.chained, kept_long c.combine-built.ensures.kept)
+roll_back-requires c = let kept = c.combine-built.ensures.kept in record { chained = kept.chained; later = kept_long kept }
 
 pub returns : goal.returns
 returns c =

@@ -5,4 +5,4 @@ use Rattle.diagram.proofs.spread.spread.Goals as goal
 
 pub returns : goal.returns
 unfolding spread hash
-returns c = record { is = refl; below = spread_below c.args.many c.args.x c.args.y c.args.z c.requires.0 }
+returns c = record { is = refl; below = spread_below c.args.many c.args.x c.args.y c.args.z c.requires.some }

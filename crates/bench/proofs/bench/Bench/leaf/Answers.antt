@@ -8,7 +8,7 @@ use Rattle.diagram.proofs.Once.{sound_of}
 use Rattle.bench.proofs.bench.Bench.leaf.Goals as goal
 
 pub unreachable-requires : goal.unreachable-requires
-unreachable-requires g c = omega (arith, c.requires.1, ltb-false _ _ c.in-Err.ensures.1)
+unreachable-requires g c = omega (arith, c.requires.stands, ltb-false _ _ c.in-Err.ensures.1)
 
 pub returns : goal.returns
 returns g c =
@@ -17,5 +17,5 @@ returns g c =
     let is = c.in-Ok.ensures.1 in
     record {
       is = is ∙ ap (eval s c.args.a) (fun_ext c.ask.ensures);
-      code = subst (λ x. x < 8) (sym is) (eval_code s (sound_of s b.sound) c.args.a c.requires.1 _);
+      code = subst (λ x. x < 8) (sym is) (eval_code s (sound_of s b.sound) c.args.a c.requires.stands _);
     }

@@ -10,7 +10,7 @@ pub returns-then-not-both_stand : goal.returns-then-not-both_stand
 returns-then-not-both_stand c = record { is = (sym c.if-not-both_stand.ensures, refl); room = refl; grown = still }
 
 pub orders-requires : goal.orders-requires
-orders-requires c = known_parts (store_of c.args.self.now) c.args.node.low c.args.node.high (sym c.if-not-both_stand.ensures)
+orders-requires c = let known = known_parts (store_of c.args.self.now) c.args.node.low c.args.node.high (sym c.if-not-both_stand.ensures) in record { low = known.0; high = known.1 }
 
 pub returns-then-not-orders : goal.returns-then-not-orders
 returns-then-not-orders c = record { is = (sym c.if-not-both_stand.ensures, sym c.if-not-orders.ensures, refl); room = refl; grown = still }

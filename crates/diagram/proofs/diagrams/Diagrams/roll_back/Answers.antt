@@ -20,7 +20,7 @@ pub roll_back-requires : goal.roll_back-requires
 roll_back-requires c =
     let old = c.take-words.result in
     let same = ap (λ (d : Diagrams). d.fill) c.take-words.ensures in
-    (chained old, omega (arith, same))
+    record { chained = chained old; later = omega (arith, same) }
 
 pub invariant_of-self : goal.invariant_of-self
 invariant_of-self c =
