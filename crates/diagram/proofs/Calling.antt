@@ -1,18 +1,12 @@
 -- What a call's tests say.
-use Rattle.std.proofs.Common.{◌≡◌, ℕ, ◌<◌, ◌≤◌, true, ◌&&◌, eqb, ltb, ◌↔◌, sym, ap, ◌∙◌, arith}
-use Rattle.std.proofs.lemmas.Bool.{and_parts, and_left, eqb-true, eq-eqb, ltb-true, lt-ltb, le-ltb}
+use Rattle.std.proofs.Common.{◌≡◌, ℕ, ◌<◌, true, ◌&&◌, eqb, ◌↔◌, sym, ◌∙◌, arith}
+use Rattle.std.proofs.lemmas.Bool.{and_parts, eqb-true, eq-eqb, ltb-true}
 use Rattle.diagram.specs.declared.node.Node.{Node}
 use Rattle.diagram.specs.Calls.{stands, ordered}
 use Rattle.diagram.specs.Combining.{first}
 use Rattle.diagram.specs.Store.{Store, Query, mark, eval, Outcome, full, done, Fits, Sound, Grown}
 use Rattle.diagram.proofs.Canonical.{canonicity}
 use Rattle.diagram.proofs.Stands.{eval_grown, grown_length, top_small}
-
-pub both_then : (a b m n : ℕ) → m ≡ n → a < m → ltb b m ≡ (ltb a n && ltb b n)
-both_then a b m n e h = ap (ltb b) e ∙ ap (λ t. t && ltb b n) (sym (lt-ltb a n (omega arith)))
-
-pub both_else : (a b m n : ℕ) → m ≡ n → m ≤ a → ltb a m ≡ (ltb a n && ltb b n)
-both_else a b m n e h = le-ltb a m h ∙ sym (and_left (ltb a n) (ltb b n) (le-ltb a n (omega arith)))
 
 pub known_parts : (s : Store) (a b : ℕ) → (stands s a && stands s b) ≡ true → (a < mark s) × (b < mark s)
 known_parts s a b e = let p = and_parts (stands s a) (stands s b) e in (ltb-true a (mark s) p.0, ltb-true b (mark s) p.1)

@@ -2,7 +2,7 @@
 -- Combining, fixing and closing are such, and what is the same in them is proved here.
 use Rattle.std.proofs.Common.{◌≡◌, ℕ, zero, suc, ◌+◌, ◌<◌, ◌≤◌, cond, sym, ap, ◌∙◌, subst, arith}
 use mathlib.Core.Path.{fun_ext}
-use Rattle.diagram.specs.Store.{Store, Query, mark, top, eval, Outcome, full, done, bind, Later, Sound, Grown, still}
+use Rattle.diagram.specs.Store.{Store, Query, mark, top, eval, Outcome, done, bind, Later, Sound, Grown, still}
 use Rattle.diagram.proofs.Builds.{Holds, holds_by, holds_at, bind_same, holds_then, Built}
 use Rattle.diagram.proofs.Stands.{grown_trans, eval_grown, later_grown}
 
@@ -170,19 +170,7 @@ module _ {X : Type 0} (d : Descent X) where
     pub ran_at : (room : ℕ) (s : Store) (x : X) → Sound s → d.Stands s x → (t : Store) (r : ℕ) → d.build 48 room s x ≡ done t r → Ran 48 s x t r
     ran_at room s x so st t r e = holds_at (Ran 48 s x) (d.build 48 room s x) t r (holds 48 room s x so st (omega arith)) e
 
-    -- and the steps on the way there, by the recursion itself
+    -- and where x has parts, what is built of those, to the same depth
     module _ (room : ℕ) {s : Store} {x : X} {v : ℕ} {lo hi : X} (so : Sound s) (go : Goes s x v lo hi) where
-      at_node : d.build 48 room s x ≡ of_parts 48 v lo hi room s
+      pub at_node : d.build 48 room s x ≡ of_parts 48 v lo hi room s
       at_node = go.is 47 room s still ∙ parts_same 47 48 room s x v lo hi so go (omega arith) (λ t y su sy lt. deep_same 47 48 room t y su sy (omega arith) (omega arith))
-
-      pub low_full : d.build 48 room s lo ≡ full → d.build 48 room s x ≡ full
-      low_full e = at_node ∙ ap (λ p. bind p (λ u₁ l. bind (d.build 48 room u₁ hi) (λ u₂ h. d.after v l h room u₂))) e
-
-      pub high_after : (s₁ : Store) (l : ℕ) → d.build 48 room s lo ≡ done s₁ l → d.build 48 room s x ≡ bind (d.build 48 room s₁ hi) (λ u₂ h. d.after v l h room u₂)
-      high_after s₁ l e = at_node ∙ ap (λ p. bind p (λ u₁ l. bind (d.build 48 room u₁ hi) (λ u₂ h. d.after v l h room u₂))) e
-
-      pub high_full : (s₁ : Store) (l : ℕ) → d.build 48 room s lo ≡ done s₁ l → d.build 48 room s₁ hi ≡ full → d.build 48 room s x ≡ full
-      high_full s₁ l e k = high_after s₁ l e ∙ ap (λ p. bind p (λ u₂ h. d.after v l h room u₂)) k
-
-      pub both_done : (s₁ s₂ : Store) (l h : ℕ) → d.build 48 room s lo ≡ done s₁ l → d.build 48 room s₁ hi ≡ done s₂ h → d.build 48 room s x ≡ d.after v l h room s₂
-      both_done s₁ s₂ l h e k = high_after s₁ l e ∙ ap (λ p. bind p (λ u₂ h. d.after v l h room u₂)) k

@@ -3,7 +3,6 @@ pub mod Stands
 pub mod Builds
 pub mod Makes
 pub mod Descents
-pub mod Steps
 pub mod Words
 pub mod Chains
 pub mod Kept
@@ -22,5 +21,6 @@ pub mod Calling
 pub mod Counts
 pub mod Sweeps
 pub mod Marks
-pub mod Settles
 pub mod Lawful
+pub mod Steps
+pub mod Settles

@@ -5,13 +5,14 @@ use Rattle.diagram.specs.Closing.{closed}
 use Rattle.diagram.specs.Combining.{combined}
 use Rattle.diagram.specs.Fixing.{fixed}
 use Rattle.diagram.specs.Memo.{entries, slot, is_for, recalled, written, noted, fix_key, close_key, built, Known, Entry, Remembers, Empty}
-use Rattle.diagram.specs.Rules.{keyed}
+use Rattle.diagram.specs.declared.rule.Rule.{Rule}
+use Rattle.diagram.specs.Rules.{key_of, keyed, value_of}
 use Rattle.diagram.specs.Store.{Store, mark, done, Sound, Grown, still}
 use Rattle.diagram.proofs.Closes.{closes, closes_so}
 use Rattle.diagram.proofs.Combines.{combines, combines_so}
 use Rattle.diagram.proofs.Descents.{Descent, Descends, Ran, ran_at}
 use Rattle.diagram.proofs.Fixes.{fixes, fixes_so}
-use Rattle.diagram.proofs.Rulings.{keyed_leaves}
+use Rattle.diagram.proofs.Rulings.{by_keys, key_kind, keyed_leaves}
 use Rattle.diagram.proofs.Spreads.{spread_below}
 use Rattle.diagram.proofs.Stands.{grown_length, grown_sound}
 
@@ -69,24 +70,44 @@ known_grown {s} {t} key a b r so g k = (
 pub remembers_grown : (s t : Store) (memo : List ℕ) → Sound t → Grown s t → Remembers s memo → Remembers t memo
 remembers_grown s t memo so g m k h some = known_grown _ _ _ _ so g (m k h some)
 
--- what was built just now is an entry of the store that it left
-pub known_combined : {s t : Store} (key a b r : ℕ) → key < 536870912 → (key % 4 ≡ 0 → ⊥) → a < mark s → b < mark s → Ran (combines (keyed key)) 48 s (a, b) t r → Known t key a b r
-unfolding combined
-known_combined {s} {t} key a b r lt ne ha hb ran = (
-  omega (arith, grown_length ran.grown),
-  omega (arith, grown_length ran.grown),
-  λ e. absurd (ne e),
-  λ room. built_rule room t key a b lt ne ∙ ran.stable room t still ran.sound,
-)
+-- what was built just now is an entry of the store that it left, and an entry tells what building comes to
+module _ (rule : Rule) {key : ℕ} (is : key ≡ key_of rule) where
+  values : keyed key ≡ value_of rule
+  values = ap keyed is ∙ by_keys rule
+
+  no_pair : key % 4 ≡ 0 → ⊥
+  no_pair e = key_kind rule (ap (λ k. k % 4) (sym is) ∙ e)
+
+  pub known_combined : {s t : Store} (a b r : ℕ) → key < 536870912 → a < mark s → b < mark s → Ran (combines (value_of rule)) 48 s (a, b) t r → Known t key a b r
+  unfolding combined
+  known_combined {s} {t} a b r lt ha hb ran = (
+    omega (arith, grown_length ran.grown),
+    omega (arith, grown_length ran.grown),
+    λ e. absurd (no_pair e),
+    λ room. built_rule room t key a b lt no_pair ∙ ap (λ f. combined room t f a b) values ∙ ran.stable room t still ran.sound,
+  )
+
+  pub combined_known : {s : Store} {a b r : ℕ} → key < 536870912 → Known s key a b r → (room : ℕ) → combined room s (value_of rule) a b ≡ done s r
+  combined_known {s} {a} {b} {r} lt k room = ap (λ f. combined room s f a b) (sym values) ∙ sym (built_rule room s key a b lt no_pair) ∙ k.3 room
+
+  pub known_closed : {s t : Store} (a r : ℕ) → a < mark s → Ran (closes (value_of rule)) 48 s a t r → Known t (close_key key) a 0 r
+  known_closed {s} {t} a r ha ran = (
+    omega (arith, grown_length ran.grown),
+    omega arith,
+    λ e. absurd (no_pair (omega arith)),
+    λ room. built_close room t key a 0 ∙ ap (λ f. closed room t f a) values ∙ ran.stable room t still ran.sound,
+  )
+
+  pub closed_known : {s : Store} {a r : ℕ} → Known s (close_key key) a 0 r → (room : ℕ) → closed room s (value_of rule) a ≡ done s r
+  closed_known {s} {a} {r} k room = ap (λ f. closed room s f a) (sym values) ∙ sym (built_close room s key a 0) ∙ k.3 room
 
 pub known_fixed : {s t : Store} (j a r : ℕ) → j < 48 → a < mark s → Ran (fixes j) 48 s a t r → Known t (fix_key j) a 0 r
 unfolding fixed
 known_fixed {s} {t} j a r small ha ran =
     (omega (arith, grown_length ran.grown), omega arith, λ e. omega arith, λ room. built_fix room t j a 0 small ∙ ran.stable room t still ran.sound)
 
-pub known_closed : {s t : Store} (key a r : ℕ) → (key % 4 ≡ 0 → ⊥) → a < mark s → Ran (closes (keyed key)) 48 s a t r → Known t (close_key key) a 0 r
-known_closed {s} {t} key a r ne ha ran =
-    (omega (arith, grown_length ran.grown), omega arith, λ e. absurd (ne (omega arith)), λ room. built_close room t key a 0 ∙ ran.stable room t still ran.sound)
+pub fixed_known : {s : Store} {j a r : ℕ} → j < 48 → Known s (fix_key j) a 0 r → (room : ℕ) → fixed room s j a ≡ done s r
+fixed_known {s} {j} {a} {r} small k room = sym (built_fix room s j a 0 small) ∙ k.3 room
 
 pub remembers_none : (s : Store) (memo : List ℕ) → Empty memo → Remembers s memo
 remembers_none s memo none k h some = absurd (omega (arith, none k h))

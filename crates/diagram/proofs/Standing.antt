@@ -1,12 +1,13 @@
 -- What the type of diagrams holds of every value, for its methods and for the crates above.
-use Rattle.std.proofs.Common.{◌≡◌, ℕ, ◌+◌, ◌<◌, sym, subst, arith}
+use Rattle.std.proofs.Common.{ℕ, ◌+◌, ◌-◌, ◌<◌, ◌≤◌, arith}
 use Rattle.diagram.specs.declared.diagrams.Diagrams.{Diagrams}
 use Rattle.diagram.specs.Held.{store_of}
 use Rattle.diagram.specs.Memo.{Remembers}
 use Rattle.diagram.specs.Store.{mark, Sound}
-use Rattle.diagram.specs.Words.{Chained}
+use Rattle.diagram.specs.Words.{Chained, node_at}
 use Rattle.diagram.proofs.Once.{sound_of, remembers_of}
-use Rattle.diagram.proofs.Words.{length-stored}
+use Rattle.diagram.proofs.Stands.{Standing}
+use Rattle.diagram.proofs.Words.{length-stored, read}
 
 -- the nodes in use are sound
 pub standing : (d : Diagrams) → Sound (store_of d)
@@ -20,9 +21,11 @@ chained d = record { few = d.few; within = d.within; heads = d.heads; links = d.
 pub remembered : (d : Diagrams) → Remembers (store_of d) d.memo.now
 remembered d = remembers_of (store_of d) d.memo.now d.knows
 
--- a reference that stood in a value stands in the parts that were taken out of it
-pub still_stands : (old now : Diagrams) (a : ℕ) → old ≡ now → a < mark (store_of now) → a < 8 + old.fill
-still_stands old now a is h =
-    let long = length-stored old.words.now old.fill in
-    let here : a < mark (store_of old) = subst (λ d. a < mark (store_of d)) (sym is) h in
-    omega arith
+module _ (d : Diagrams) (r : ℕ) (stands : r < mark (store_of d)) where
+  -- a reference that stands is below the fill mark
+  pub below_fill : r < 8 + d.fill
+  below_fill = omega (arith, length-stored d.words.now d.fill)
+
+  -- and a node's is read from the words
+  pub node_read : 8 ≤ r → Standing (store_of d) (node_at d.words.now (r - 8)) r
+  node_read h = read d.words.now d.fill r h below_fill

@@ -3,11 +3,8 @@ use Rattle.std.specs.Prelude.{◌≡◌, ℕ, Bool, true, false, ◌&&◌, ◌�
 use Rattle.diagram.specs.declared.node.Node.{Node}
 use Rattle.diagram.specs.declared.refusal.Refusal.{Refusal}
 use Rattle.diagram.specs.declared.refusal.Refusal.TheVariants.{Full, Unknown, Unordered}
-use Rattle.diagram.specs.declared.table.TableFull.{TableFull}
 use Rattle.diagram.specs.Combining.{first}
-use Rattle.diagram.specs.Memo.{Empty}
 use Rattle.diagram.specs.Store.{Store, Query, mark, eval, Outcome, full, done}
-use Rattle.diagram.specs.Words.{Chained, stored}
 
 -- is r a reference into s, a leaf or a node?
 abbrev pub stands : Store → ℕ → Bool
@@ -24,13 +21,6 @@ Answers known orders outcome s t (Ok r) = (known ≡ true) × (orders ≡ true) 
 Answers known orders outcome s t (Err Unknown) = (known ≡ false) × (t ≡ s)
 Answers known orders outcome s t (Err Unordered) = (known ≡ true) × (orders ≡ false) × (t ≡ s)
 Answers known orders outcome s t (Err Full) = (known ≡ true) × (orders ≡ true) × (outcome ≡ full) × (t ≡ s)
-
--- once building has ended, what is left of the words, the fill mark and the memo, and what is answered: where the table was
--- full, the nodes below the mark `start` are left and an empty memo
-abbrev pub Settled : List ℕ → ℕ → List ℕ → ℕ → Result ℕ TableFull → List ℕ → ℕ → List ℕ → Result ℕ TableFull → Type 0
-Settled words fill memo start (Ok x) left left_fill left_memo r = (r ≡ Ok x) × (left ≡ words) × (left_fill ≡ fill) × (left_memo ≡ memo)
-Settled words fill memo start (Err e) left left_fill left_memo r =
-    (r ≡ Err e) × Chained left start × (left_fill ≡ start) × (stored left start ≡ stored words start) × Empty left_memo
 
 -- the answer to whether two references evaluate alike at every query
 abbrev pub Alike : Store → ℕ → ℕ → Result Bool Refusal → Type 0

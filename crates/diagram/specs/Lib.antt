@@ -14,3 +14,4 @@ pub mod Calls
 pub mod Counting
 pub mod Sweeping
 pub mod Joining
+pub mod Building

@@ -1,5 +1,5 @@
 -- What a building function answers, and what it keeps.
-use Rattle.std.specs.Prelude.{◌≡◌, ℕ, ◌<◌, Bool, true, ◌↔◌, List, Ok, Err, Result, ◌≢◌}
+use Rattle.std.specs.Prelude.{◌≡◌, ℕ, ◌<◌, List, Ok, Err, Result}
 use Rattle.diagram.specs.declared.table.TableFull.{TableFull}
 use Rattle.diagram.specs.Closing.{Coded, Bound}
 use Rattle.diagram.specs.Store.{Store, Query, mark, eval, Outcome, full, done, Sound, Grown}
@@ -10,12 +10,11 @@ abbrev pub Told : Outcome → Store → Result ℕ TableFull → Type 0
 Told outcome t (Ok r) = outcome ≡ done t r
 Told outcome t (Err e) = outcome ≡ full
 
--- the table is in order after a call, and the nodes below the old fill mark stand as before
+-- the table is in order after a call, and newer nodes at most stand on the old ones
 pub record Kept (old : List ℕ) (old_fill : ℕ) (new : List ℕ) (new_fill : ℕ) : Type 0 where
   pub chained : Chained new new_fill
   pub sound : Sound (stored new new_fill)
   pub grown : Grown (stored old old_fill) (stored new new_fill)
-  pub olds : stored new old_fill ≡ stored old old_fill
 
 -- the reference, where there is one, stands in the table and evaluates so
 abbrev pub Gives : {E : Type 0} → Store → (Query → ℕ) → Result ℕ E → Type 0
@@ -27,8 +26,3 @@ Gives t value (Err e) = Unit {0}
 abbrev pub Closes : {E : Type 0} → ℕ → (ℕ → ℕ → ℕ) → Store → ℕ → Store → Result ℕ E → Type 0
 Closes codes join s a t (Ok r) = (r < mark t) × (Coded codes (eval s a) → (q : Query) → Bound codes join (eval s a) q (eval t r q))
 Closes codes join s a t (Err e) = Unit {0}
-
--- whether two values agree at every query, unless there was no room to tell
-abbrev pub Compares : {E : Type 0} → Outcome → (Query → ℕ) → (Query → ℕ) → Result Bool E → Type 0
-Compares outcome value other (Ok same) = (outcome ≢ full) × ((same ≡ true) ↔ ((q : Query) → value q ≡ other q))
-Compares outcome value other (Err e) = outcome ≡ full

@@ -20,7 +20,10 @@ pub struct Diagrams<'m> {
 }
 
 mod closing;
+mod combining;
 mod counting;
+mod fixing;
 mod methods;
+mod nodes;
 mod standing;
 mod sweeping;

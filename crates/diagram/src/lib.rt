@@ -1,24 +1,18 @@
 // Reduced ordered decision diagrams in memory that the owner lends.
 #![tactic(auto)]
 
-mod close;
-mod combine;
 mod count;
 mod diagrams;
-mod fix;
 mod kind;
 mod mark;
 mod memo;
 mod node;
 mod parts;
-mod probe;
 mod refusal;
 mod rule;
-mod settle;
 mod spread;
 mod sweep;
 mod table;
-mod trial;
 mod view;
 
 pub use diagrams::Diagrams;

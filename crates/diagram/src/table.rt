@@ -63,7 +63,7 @@ pub(crate) fn make(words: &mut [u32], fill: &mut usize, node: Node) -> Result<u3
     requires fits { Fits (stored words.old fill.old) node }
     ensures told { Told (made (capacity words.old) (stored words.old fill.old) node) (stored words.new fill.new) result }
     ensures kept { Kept words.old fill.old words.new fill.new }
-    ensures alike { is_err result ≡ true → fill.new ≡ fill.old }
+    ensures alike { is_err result ≡ true → stored words.new fill.new ≡ stored words.old fill.old }
 {
     if node.low == node.high {
         return Ok(node.low);

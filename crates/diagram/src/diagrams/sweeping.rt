@@ -5,7 +5,7 @@ ghost use Rattle.diagram.specs.Sweeping.{Moves, swept, wanted};
 use super::Diagrams;
 use crate::memo::forget;
 
-impl<'m> Diagrams<'m> {
+impl Diagrams<'_> {
     // Keeps just the nodes that are reached from the roots, in their order, and gives each root its new reference. A root
     // that does not stand in the table is left as it is, and keeps nothing.
     pub fn sweep(&mut self, roots: &mut [u32])
@@ -15,13 +15,7 @@ impl<'m> Diagrams<'m> {
         ensures fewer { length (store_of self.new) ≤ length (store_of self.old) }
         ensures room { room_of self.new ≡ room_of self.old }
     {
-        let Diagrams { words, memo, fill } = self.take();
-        let kept = crate::sweep::sweep(words, fill, roots);
-        forget(memo);
-        *self = Diagrams {
-            words,
-            memo,
-            fill: kept,
-        };
+        forget(self.memo);
+        self.fill = crate::sweep::sweep(self.words, self.fill, roots);
     }
 }

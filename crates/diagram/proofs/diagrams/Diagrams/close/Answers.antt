@@ -1,33 +1,31 @@
-use Rattle.std.proofs.Common.{sym, refl, arith}
+use Rattle.std.proofs.Common.{true, sym, refl, subst}
 use Rattle.std.proofs.lemmas.Bool.{ltb-true}
-use Rattle.diagram.specs.Store.{still}
-use Rattle.diagram.proofs.Standing.{standing, chained, remembered, still_stands}
+use Rattle.diagram.specs.Calls.{Answers, stands}
+use Rattle.diagram.specs.Closing.{closed}
+use Rattle.diagram.specs.Held.{store_of, room_of}
+use Rattle.diagram.specs.Store.{eval, still}
+use Rattle.diagram.specs.Told.{Closes}
+use Rattle.diagram.proofs.Closes.{Bounds, closes_so}
+use Rattle.diagram.proofs.Rulings.{value_leaves}
+use Rattle.diagram.proofs.Settles.{settled, settled_grown, settled_holds}
 use Rattle.diagram.proofs.diagrams.Diagrams.close.Goals as goal
 
-pub returns-then-not-stands : goal.returns-then-not-stands
-returns-then-not-stands g c = record { is = (sym c.if-not-stands.ensures, refl); room = refl; grown = still; means = tt }
+pub returns-then-not-stands-clause-grown : goal.returns-then-not-stands-clause-grown
+returns-then-not-stands-clause-grown g c = still
 
-pub close_or_none-built-requires : goal.close_or_none-built-requires
-close_or_none-built-requires g c =
-    let old = c.take-words.result in
-    record {
-      chained = chained old;
-      sound = standing old;
-      stands = still_stands old c.args.self.now c.args.a c.take-words.ensures (ltb-true _ _ (sym c.if-not-stands.ensures));
-      few = old.short;
-      knows = remembered old;
-    }
+pub returns-clause-is : goal.returns-clause-is
+returns-clause-is g c =
+    let s = store_of c.args.self.now in
+    subst (λ j. Answers (stands s c.args.a) true (closed (room_of c.args.self.now) s j c.args.a) s (store_of c.settle.new.self) c.settle.result) c.rule.ensures
+    (settled _ (sym c.if-not-stands.ensures) refl c.build_closed-built.result c.settle.result c.build_closed-built.ensures c.settle.ensures)
 
-pub invariant_of-self : goal.invariant_of-self
-invariant_of-self g c =
-    let kept = c.close_or_none-built.ensures.kept in
-    let ch = kept.chained in
-    record {
-      few = ch.few;
-      within = ch.within;
-      heads = ch.heads;
-      links = ch.links;
-      sound = ∣ kept.sound ∣₁;
-      short = omega (arith, c.take-words.result.short, c.close_or_none-built.auto.memo);
-      knows = ∣ c.close_or_none-built.ensures.knows ∣₁;
-    }
+pub returns-clause-grown : goal.returns-clause-grown
+returns-clause-grown g c = settled_grown _ c.build_closed-built.result c.settle.result c.build_closed-built.ensures c.settle.ensures
+
+pub returns-clause-means : goal.returns-clause-means
+returns-clause-means g c =
+    let s = store_of c.args.self.now in
+    settled_holds (closes_so _ (value_leaves c.rule.result)) c.settle.new.self (ltb-true _ _ (sym c.if-not-stands.ensures))
+    (Closes g.K.Kind.codes g.K.Kind.join s c.args.a (store_of c.settle.new.self))
+    (λ x ran. (ran.below, subst (λ j. Bounds j s c.args.a (eval (store_of c.settle.new.self) x)) c.rule.ensures ran.means g.K.Kind.codes g.met.K.Kind.laws))
+    tt c.build_closed-built.result c.settle.result c.build_closed-built.ensures c.settle.ensures

@@ -1,36 +1,33 @@
-use Rattle.std.proofs.Common.{sym, refl, arith}
+use Rattle.std.proofs.Common.{sym, refl}
+use Rattle.diagram.specs.Combining.{combined}
 use Rattle.diagram.specs.Held.{store_of}
-use Rattle.diagram.specs.Store.{still}
+use Rattle.diagram.specs.Rules.{value_of}
+use Rattle.diagram.specs.Store.{eval, still}
+use Rattle.diagram.specs.Told.{Gives}
 use Rattle.diagram.proofs.Calling.{known_parts}
-use Rattle.diagram.proofs.Standing.{standing, chained, remembered, still_stands}
+use Rattle.diagram.proofs.Combines.{combines_so}
+use Rattle.diagram.proofs.Rulings.{value_leaves}
+use Rattle.diagram.proofs.Settles.{settled, settled_grown, settled_holds}
 use Rattle.diagram.proofs.diagrams.Diagrams.combine.Goals as goal
 
-pub returns-then-not-both_stand : goal.returns-then-not-both_stand
-returns-then-not-both_stand c = record { is = (sym c.if-not-both_stand.ensures, refl); room = refl; grown = still; means = tt }
+pub returns-then-not-both_stand-clause-grown : goal.returns-then-not-both_stand-clause-grown
+returns-then-not-both_stand-clause-grown c = still
 
-pub combine_or_none-built-requires : goal.combine_or_none-built-requires
-combine_or_none-built-requires c =
-    let old = c.take-words.result in
+pub build_combined-built-requires : goal.build_combined-built-requires
+build_combined-built-requires c =
     let known = known_parts (store_of c.args.self.now) c.args.a c.args.b (sym c.if-not-both_stand.ensures) in
-    record {
-      chained = chained old;
-      sound = standing old;
-      left = still_stands old c.args.self.now c.args.a c.take-words.ensures known.0;
-      right = still_stands old c.args.self.now c.args.b c.take-words.ensures known.1;
-      few = old.short;
-      knows = remembered old;
-    }
+    record { left = known.0; right = known.1 }
 
-pub invariant_of-self : goal.invariant_of-self
-invariant_of-self c =
-    let kept = c.combine_or_none-built.ensures.kept in
-    let ch = kept.chained in
-    record {
-      few = ch.few;
-      within = ch.within;
-      heads = ch.heads;
-      links = ch.links;
-      sound = ∣ kept.sound ∣₁;
-      short = omega (arith, c.take-words.result.short, c.combine_or_none-built.auto.memo);
-      knows = ∣ c.combine_or_none-built.ensures.knows ∣₁;
-    }
+pub returns-clause-is : goal.returns-clause-is
+returns-clause-is c = settled _ (sym c.if-not-both_stand.ensures) refl c.build_combined-built.result c.settle.result c.build_combined-built.ensures c.settle.ensures
+
+pub returns-clause-grown : goal.returns-clause-grown
+returns-clause-grown c = settled_grown _ c.build_combined-built.result c.settle.result c.build_combined-built.ensures c.settle.ensures
+
+pub returns-clause-means : goal.returns-clause-means
+unfolding combined
+returns-clause-means c =
+    let s = store_of c.args.self.now in
+    settled_holds (combines_so _ (value_leaves c.args.rule)) c.settle.new.self (known_parts s c.args.a c.args.b (sym c.if-not-both_stand.ensures))
+    (Gives (store_of c.settle.new.self) (λ q. value_of c.args.rule (eval s c.args.a q) (eval s c.args.b q)))
+    (λ x ran. (ran.below, ran.means)) tt c.build_combined-built.result c.settle.result c.build_combined-built.ensures c.settle.ensures

@@ -1,37 +1,28 @@
-use Rattle.std.proofs.Common.{sym, refl, arith}
-use Rattle.diagram.specs.Store.{still}
-use Rattle.diagram.proofs.Standing.{standing, chained, remembered, still_stands}
-use Rattle.std.proofs.lemmas.Bool.{ltb-true, le-ltb}
+use Rattle.std.proofs.Common.{true, sym}
+use Rattle.std.proofs.lemmas.Bool.{ltb-true, lt-ltb}
+use Rattle.diagram.specs.Fixing.{fixed}
+use Rattle.diagram.specs.Held.{store_of}
+use Rattle.diagram.specs.Store.{eval, put, still}
+use Rattle.diagram.specs.Told.{Gives}
+use Rattle.diagram.proofs.Fixes.{fixes_so}
+use Rattle.diagram.proofs.Settles.{settled, settled_grown, settled_holds}
 use Rattle.diagram.proofs.diagrams.Diagrams.fix.Goals as goal
 
-pub returns-then-not-stands : goal.returns-then-not-stands
-returns-then-not-stands c = record { is = (sym c.if-not-stands.ensures, refl); room = refl; grown = still; means = tt }
+pub returns-then-not-stands-clause-grown : goal.returns-then-not-stands-clause-grown
+returns-then-not-stands-clause-grown c = still
 
-pub returns-then-pair-ge-PAIRS : goal.returns-then-pair-ge-PAIRS
-returns-then-pair-ge-PAIRS c = record { is = (sym c.if-not-stands.ensures, le-ltb c.args.pair 48 c.if-pair-ge-PAIRS.true, refl); room = refl; grown = still; means = tt }
+pub returns-then-pair-ge-PAIRS-clause-grown : goal.returns-then-pair-ge-PAIRS-clause-grown
+returns-then-pair-ge-PAIRS-clause-grown c = still
 
-pub fix_or_none-built-requires : goal.fix_or_none-built-requires
-fix_or_none-built-requires c =
-    let old = c.take-words.result in
-    record {
-      chained = chained old;
-      sound = standing old;
-      small = c.if-pair-ge-PAIRS.false;
-      stands = still_stands old c.args.self.now c.args.a c.take-words.ensures (ltb-true _ _ (sym c.if-not-stands.ensures));
-      few = old.short;
-      knows = remembered old;
-    }
+pub returns-clause-is : goal.returns-clause-is
+returns-clause-is c = settled _ (sym c.if-not-stands.ensures) (lt-ltb c.args.pair 48 c.if-pair-ge-PAIRS.false) c.build_fixed-built.result c.settle.result c.build_fixed-built.ensures c.settle.ensures
 
-pub invariant_of-self : goal.invariant_of-self
-invariant_of-self c =
-    let kept = c.fix_or_none-built.ensures.kept in
-    let ch = kept.chained in
-    record {
-      few = ch.few;
-      within = ch.within;
-      heads = ch.heads;
-      links = ch.links;
-      sound = ∣ kept.sound ∣₁;
-      short = omega (arith, c.take-words.result.short, c.fix_or_none-built.auto.memo);
-      knows = ∣ c.fix_or_none-built.ensures.knows ∣₁;
-    }
+pub returns-clause-grown : goal.returns-clause-grown
+returns-clause-grown c = settled_grown _ c.build_fixed-built.result c.settle.result c.build_fixed-built.ensures c.settle.ensures
+
+pub returns-clause-means : goal.returns-clause-means
+unfolding fixed
+returns-clause-means c =
+    settled_holds (fixes_so c.args.pair c.if-pair-ge-PAIRS.false) c.settle.new.self (ltb-true _ _ (sym c.if-not-stands.ensures))
+    (Gives (store_of c.settle.new.self) (λ q. eval (store_of c.args.self.now) c.args.a (put q c.args.pair true)))
+    (λ x ran. (ran.below, ran.means)) tt c.build_fixed-built.result c.settle.result c.build_fixed-built.ensures c.settle.ensures
