@@ -1,22 +1,12 @@
 ghost use Rattle.std.specs.Prelude.{◌≡◌, ◌+◌, ◌*◌, ◌≤◌, length};
-ghost use Rattle.diagram.specs.Store.{same};
 ghost use Rattle.diagram.specs.Words.{node_at};
 
 // A test of one pair: where the query has the pair, the high reference goes on, else the low one.
-#[derive(Clone, Copy)]
+#[derive(Clone, Copy, Debug, PartialEq, Eq)]
 pub struct Node {
     pub pair: u32,
     pub low: u32,
     pub high: u32,
-}
-
-impl Node {
-    // Whether the two are equal in all three words.
-    pub(crate) fn is(self, other: Node) -> bool
-        ensures { result ≡ same self other }
-    {
-        self.pair == other.pair && self.low == other.low && self.high == other.high
-    }
 }
 
 // The words of a node: these three, a bucket's head, a chain's link, and two that hold a count, or in a sweep a mark.

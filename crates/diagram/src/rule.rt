@@ -2,7 +2,7 @@ ghost use Rattle.std.specs.Prelude.{◌≡◌, ◌<◌, ◌≤◌, length};
 ghost use Rattle.diagram.specs.Rules.{ToldApart, entry as entry_of, key_of, number as number_of, value_of};
 
 // How two leaf codes make a third. Of an entry the three lowest bits count, and a missing entry is 0.
-#[derive(Clone, Copy)]
+#[derive(Clone, Copy, Debug, PartialEq, Eq)]
 pub enum Rule {
     // The first code's entry, whatever the second code is.
     One([u8; 3]),

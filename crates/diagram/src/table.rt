@@ -31,7 +31,7 @@ fn find(words: &[u32], fill: usize, b: usize, node: Node) -> Option<u32>
     let mut at = words[SIZE * b + HEAD] as usize;
     while at != 0 {
         let k = at - 1;
-        if node_at(words, k).is(node) {
+        if node_at(words, k) == node {
             return Some(LEAVES + k as u32);
         }
         at = words[SIZE * k + LINK] as usize;
