@@ -1,5 +1,5 @@
 -- The chains through the buckets.
-use Rattle.std.proofs.Common.{◌≡◌, ℕ, zero, suc, ◌+◌, ◌-◌, ◌*◌, ◌/◌, ◌<◌, ◌≤◌, true, false, cond, eqb, ◌≢◌, List, ◌∷◌, length, get_or, set, Some, None, sym, refl, ap, ◌∙◌, ⊎_elim, add-one, arith, length-set, get_or-set_other, get_or-set_same}
+use Rattle.std.proofs.Common.{◌≡◌, ℕ, zero, suc, ◌+◌, ◌*◌, ◌/◌, ◌<◌, ◌≤◌, true, false, cond, eqb, ◌≢◌, List, ◌∷◌, length, get_or, set, Some, None, sym, refl, ap, ◌∙◌, ⊎_elim, add-one, arith, length-set, get_or-set_other, get_or-set_same}
 use Rattle.std.proofs.lemmas.Bool.{eq-eqb, ne_eqb, cases_eq, cases_lt, cond-true, cond-false}
 use Rattle.diagram.specs.declared.node.Node.{Node}
 use Rattle.diagram.specs.Store.{node_of, same, found}
@@ -74,21 +74,21 @@ module _ (ws : List ℕ) (fill b : ℕ) (x : Node) (here : b ≡ bucket (capacit
   pub walk_start : (chained : Chained ws fill) → b < capacity ws → Walk ws fill b x (get_or ws (7 * b + 3) 0)
   walk_start chained lt = walk_last fill _ (omega arith) (chained.heads b lt) (λ j l h. absurd (omega arith))
 
-  module _ (chained : Chained ws fill) (at : ℕ) (some : at ≢ 0) (old : Walk ws fill b x at) where
-    walk_next : get_or ws (7 * (at - 1) + 4) 0 ≡ last (bucket_at ws) (at - 1) b
-    walk_next = chained.links (at - 1) (omega (arith, old.low)) ∙ ap (last (bucket_at ws) (at - 1)) (old.chain (at - 1) (omega arith))
+  module _ (chained : Chained ws fill) (at k : ℕ) (is : at ≡ k + 1) (old : Walk ws fill b x at) where
+    walk_next : get_or ws (7 * k + 4) 0 ≡ last (bucket_at ws) k b
+    walk_next = chained.links k (omega (arith, old.low)) ∙ ap (last (bucket_at ws) k) (old.chain k is)
 
-    pub walk_less : get_or ws (7 * (at - 1) + 4) 0 < at
-    walk_less = omega (arith, walk_next, last_le (bucket_at ws) (at - 1) b)
+    pub walk_less : get_or ws (7 * k + 4) 0 < at
+    walk_less = omega (arith, walk_next, last_le (bucket_at ws) k b)
 
-    pub walk_again : same (node_at ws (at - 1)) x ≡ false → Walk ws fill b x (get_or ws (7 * (at - 1) + 4) 0)
-    walk_again not = walk_last (at - 1) _ (omega (arith, old.low)) walk_next (λ j l h. ⊎_elim
-        (λ (s : j ≡ at - 1). ap (λ i. same (node_at ws i) x) s ∙ not)
-        (λ (s : j ≡ at - 1 → ⊥). old.above j (omega arith) h)
-        (cases_eq j (at - 1)))
+    pub walk_again : same (node_at ws k) x ≡ false → Walk ws fill b x (get_or ws (7 * k + 4) 0)
+    walk_again not = walk_last k _ (omega (arith, old.low)) walk_next (λ j l h. ⊎_elim
+        (λ (s : j ≡ k). ap (λ i. same (node_at ws i) x) s ∙ not)
+        (λ (s : j ≡ k → ⊥). old.above j (omega arith) h)
+        (cases_eq j k))
 
-    pub walk_found : same (node_at ws (at - 1)) x ≡ true → Some (8 + (at - 1)) ≡ found (stored ws fill) x
-    walk_found is = sym (found_here ws fill x (at - 1) (omega (arith, old.low)) is (λ j l h. old.above j (omega arith) h))
+    pub walk_found : same (node_at ws k) x ≡ true → Some (8 + k) ≡ found (stored ws fill) x
+    walk_found equal = sym (found_here ws fill x k (omega (arith, old.low)) equal (λ j l h. old.above j (omega arith) h))
 
   pub walk_end : Walk ws fill b x 0 → None ≡ found (stored ws fill) x
   walk_end old = sym (found_none ws fill x (λ j h. old.above j (omega arith) h))
@@ -268,10 +268,3 @@ module _ (ws : List ℕ) (m : ℕ) (chained : Chained ws (m + 1)) where
 pub cleared_chained : (ws : List ℕ) → capacity ws ≤ 65536 → ((k : ℕ) → k < capacity ws → get_or ws (7 * k + 3) 0 ≡ 0) → Chained ws 0
 unfolding last
 cleared_chained ws few zeros = record { few = few; within = omega arith; heads = zeros; links = λ k h. absurd (omega arith) }
-
-pub cleared_more : (ws : List ℕ) (b : ℕ) → 7 * b + 3 < length ws → ((k : ℕ) → k < b → get_or ws (7 * k + 3) 0 ≡ 0)
-    → (k : ℕ) → k < b + 1 → get_or (set ws (7 * b + 3) 0) (7 * k + 3) 0 ≡ 0
-cleared_more ws b lt old k h = ⊎_elim
-    (λ (s : k ≡ b). ap (λ j. get_or (set ws (7 * b + 3) 0) (7 * j + 3) 0) s ∙ get_or-set_same ws (7 * b + 3) 0 0 lt)
-    (λ (s : k ≡ b → ⊥). get_or-set_other ws (7 * b + 3) (7 * k + 3) 0 0 (omega arith) ∙ old k (omega arith))
-    (cases_eq k b)

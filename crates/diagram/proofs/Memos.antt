@@ -1,10 +1,10 @@
 -- What a memo keeps.
-use Rattle.std.proofs.Common.{◌≡◌, ℕ, ◌+◌, ◌-◌, ◌*◌, ◌/◌, ◌%◌, ◌<◌, ◌≤◌, true, false, eqb, ltb, ◌≢◌, List, length, get_or, set, Some, None, sym, ap, ◌∙◌, subst, ⊎_elim, arith, length-set, get_or-set_other, get_or-set_same}
+use Rattle.std.proofs.Common.{◌≡◌, ℕ, ◌+◌, ◌-◌, ◌*◌, ◌/◌, ◌%◌, ◌<◌, ◌≤◌, true, false, eqb, ltb, ◌≢◌, List, length, replicate, get_or, set, Some, None, sym, ap, ◌∙◌, subst, ⊎_elim, arith, length-set, get_or-set_other, get_or-set_same}
 use Rattle.std.proofs.lemmas.Bool.{cases_eq, cases_lt, cases_Bool, lt-ltb, le-ltb, cond-true, cond-false, cond_both, and_parts, eqb-true, eqb-false, eq-eqb, ne_eqb}
 use Rattle.diagram.specs.Closing.{closed}
 use Rattle.diagram.specs.Combining.{combined}
 use Rattle.diagram.specs.Fixing.{fixed}
-use Rattle.diagram.specs.Memo.{entries, slot, is_for, recalled, written, noted, fix_key, close_key, built, Known, Entry, Remembers, Empty}
+use Rattle.diagram.specs.Memo.{entries, slot, is_for, recalled, written, noted, fix_key, close_key, built, Known, Entry, Remembers}
 use Rattle.diagram.specs.declared.rule.Rule.{Rule}
 use Rattle.diagram.specs.Rules.{key_of, keyed, value_of}
 use Rattle.diagram.specs.Store.{Store, mark, done, Sound, Grown, still}
@@ -15,6 +15,7 @@ use Rattle.diagram.proofs.Fixes.{fixes, fixes_so}
 use Rattle.diagram.proofs.Rulings.{by_keys, key_kind, keyed_leaves}
 use Rattle.diagram.proofs.Spreads.{spread_below}
 use Rattle.diagram.proofs.Stands.{grown_length, grown_sound}
+use Rattle.diagram.proofs.Words.{zeros}
 
 -- what the key of a rule stands for, of a fixed pair and of a closing
 module _ (room : ℕ) (s : Store) (key a b : ℕ) where
@@ -109,8 +110,9 @@ known_fixed {s} {t} j a r small ha ran =
 pub fixed_known : {s : Store} {j a r : ℕ} → j < 48 → Known s (fix_key j) a 0 r → (room : ℕ) → fixed room s j a ≡ done s r
 fixed_known {s} {j} {a} {r} small k room = sym (built_fix room s j a 0 small) ∙ k.3 room
 
-pub remembers_none : (s : Store) (memo : List ℕ) → Empty memo → Remembers s memo
-remembers_none s memo none k h some = absurd (omega (arith, none k h))
+-- a memo of zeros has no entry
+pub remembers_none : (s : Store) (memo : List ℕ) (n : ℕ) → memo ≡ replicate n 0 → Remembers s memo
+remembers_none s memo n e k h some = absurd (omega (arith, zeros memo n e (4 * k) (omega arith)))
 
 entry_at : (s : Store) (c a b r c' a' b' r' : ℕ) → c ≡ c' → a ≡ a' → b ≡ b' → r ≡ r' → Entry s c' a' b' r' → Entry s c a b r
 entry_at s c a b r c' a' b' r' e₀ e₁ e₂ e₃ h = rw (e₀, e₁, e₂, e₃) h
@@ -230,11 +232,3 @@ module _ (memo : List ℕ) (key a b : ℕ) where
     pub noted_here : (r : ℕ) → written memo k key a b r ≡ noted memo key a b r
     unfolding noted
     noted_here r = ap (λ i. written memo i key a b r) is ∙ sym (cond-false (eqb (entries memo) 0) _ _ (ne_eqb _ _ some))
-
--- one more entry is empty
-pub emptied_more : (memo : List ℕ) (k : ℕ) → 4 * k < length memo → ((j : ℕ) → j < k → get_or memo (4 * j) 0 ≡ 0)
-    → (j : ℕ) → j < k + 1 → get_or (set memo (4 * k) 0) (4 * j) 0 ≡ 0
-emptied_more memo k lt old j h = ⊎_elim
-    (λ (s : j ≡ k). ap (λ i. get_or (set memo (4 * k) 0) (4 * i) 0) s ∙ get_or-set_same memo (4 * k) 0 0 lt)
-    (λ (s : j ≡ k → ⊥). get_or-set_other memo (4 * k) (4 * j) 0 0 (omega arith) ∙ old j (omega arith))
-    (cases_eq j k)

@@ -1,36 +1,26 @@
 -- Rules and their keys.
-use Rattle.std.proofs.Common.{◌≡◌, ℕ, zero, suc, ◌+◌, ◌*◌, ◌/◌, ◌%◌, ◌^◌, ◌<◌, ◌≤◌, eqb, List, [], ◌∷◌, length, get_or, drop, sym, refl, ap, ◌∙◌, subst, add-one, arith, length-drop, drop-cons}
+use Rattle.std.proofs.Common.{◌≡◌, ℕ, zero, suc, ◌+◌, ◌*◌, ◌/◌, ◌%◌, ◌^◌, ◌<◌, ◌≤◌, eqb, List, [], ◌∷◌, ◌++◌, length, map, reverse, Bor, sym, refl, ap, ◌∙◌, subst, arith}
 use mathlib.Core.Path.{fun_ext}
 use native.Mathlib.Nat.{pow-succ', pow-le-pow_right}
 use lib.Bits.{bit_or, or_lt}
-use lib.Seq.{drop-length}
 use Rattle.std.proofs.lemmas.Bool.{cond-true, cond-false, cond_both, eq-eqb, ne_eqb}
+use Rattle.std.proofs.lemmas.List.{map_push, reverse-append}
 use Rattle.diagram.specs.declared.rule.Rule.{Rule}
 use Rattle.diagram.specs.declared.rule.Rule.TheVariants.{One, Two, Union, Where}
 use Rattle.diagram.specs.Rules.{entry, where_one, value_of, number, digit, key_of, keyed, ToldApart, Leaves}
 
-pub number_below : (ds : List ℕ) → number ds < 8 ^ length ds
+number_below : (ds : List ℕ) → number ds < 8 ^ length ds
 unfolding number
 number_below [] = omega arith
 number_below (d ∷ ds) = omega (arith, number_below ds, pow-succ' 8 (length ds))
 
--- what is left of at most nine entries
-pub number_rest : (ds : List ℕ) (i m : ℕ) → length ds ≤ i + m → number (drop i ds) < 8 ^ m
-number_rest ds i m le =
-    let short : length (drop i ds) ≤ m = simp length-drop (omega arith) in
-    let up = pow-le-pow_right {n = 8} (omega arith) {i = length (drop i ds)} {j = m} short in
-    omega (arith, number_below (drop i ds))
+pub number_within : (ds : List ℕ) (m : ℕ) → length ds ≤ m → number ds < 8 ^ m
+number_within ds m le = let up = pow-le-pow_right {n = 8} (omega arith) {i = length ds} {j = m} le in omega (arith, number_below ds)
 
-pub number_none : (ds : List ℕ) → 0 ≡ number (drop (length ds) ds)
+-- the entries that were read from the last on, and one more
+pub number_more : (xs : List (Bor ℕ)) (x : Bor ℕ) → 8 * number (reverse (map (λ y. y.now) xs)) + x.now % 8 ≡ number (reverse (map (λ y. y.now) (xs ++ x ∷ [])))
 unfolding number
-number_none ds = ap number (sym (drop-length ds))
-
-pub number_more : (ds : List ℕ) (i : ℕ) → i < length ds → number (drop i ds) ≡ 8 * number (drop (i + 1) ds) + get_or ds i 0 % 8
-unfolding number
-number_more ds i h = rw (add-one i) (ap number (drop-cons ds i 0 h) ∙ swap (get_or ds i 0 % 8) (8 * number (drop (suc i) ds)))
-  where
-    swap : (x y : ℕ) → x + y ≡ y + x
-    swap x y = omega arith
+number_more xs x = rw (map_push, reverse-append) (omega arith)
 
 digit_below : (n i : ℕ) → digit n i < 8
 unfolding digit

@@ -1,6 +1,7 @@
 -- The nodes that words store.
-use Rattle.std.proofs.Common.{◌≡◌, ℕ, zero, suc, ◌+◌, ◌-◌, ◌<◌, ◌≤◌, true, false, List, [], ◌∷◌, length, drop, Some, None, sym, refl, ap, ◌∙◌, subst, ⊎_elim, suc-add, zero-add, arith}
+use Rattle.std.proofs.Common.{◌≡◌, ℕ, zero, suc, ◌+◌, ◌-◌, ◌<◌, ◌≤◌, true, false, List, [], ◌∷◌, length, replicate, get_or, drop, Some, None, sym, refl, ap, ◌∙◌, subst, ⊎_elim, suc-add, zero-add, arith}
 use Rattle.std.proofs.lemmas.Bool.{cond-true, cond-false, cases_lt, cases_eq}
+use Rattle.std.proofs.lemmas.List.{get_or-replicate, length-replicate}
 use Rattle.diagram.specs.declared.node.Node.{Node}
 use Rattle.diagram.specs.Store.{Store, same, found, Grown, still, newer}
 use Rattle.diagram.specs.Words.{node_at, stored}
@@ -10,6 +11,9 @@ pub length-stored : (ws : List ℕ) (k : ℕ) → length (stored ws k) ≡ k
 unfolding stored
 length-stored ws zero = refl
 length-stored ws (suc k) = ap suc (length-stored ws k)
+
+pub zeros : (ws : List ℕ) (n : ℕ) → ws ≡ replicate n 0 → (i : ℕ) → i < length ws → get_or ws i 0 ≡ 0
+zeros ws n e i h = ap (λ us. get_or us i 0) e ∙ get_or-replicate n i 0 0 (omega (arith, ap length e, length-replicate {A = ℕ} n 0))
 
 pub stored_ext : (ws vs : List ℕ) (m : ℕ) → ((k : ℕ) → k < m → node_at ws k ≡ node_at vs k) → stored ws m ≡ stored vs m
 unfolding stored

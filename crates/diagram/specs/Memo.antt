@@ -63,7 +63,3 @@ Few memo = length memo ≤ 16384
 -- every entry is empty, or what building anew would give
 abbrev pub Remembers : Store → List ℕ → Type 0
 Remembers s memo = (k : ℕ) → k < entries memo → Entry s (slice_index memo (4 * k)) (slice_index memo (4 * k + 1)) (slice_index memo (4 * k + 2)) (slice_index memo (4 * k + 3))
-
--- every entry is empty
-abbrev pub Empty : List ℕ → Type 0
-Empty memo = (k : ℕ) → k < entries memo → slice_index memo (4 * k) ≡ 0

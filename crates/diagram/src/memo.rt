@@ -1,5 +1,5 @@
 ghost use Rattle.std.specs.Prelude.{◌≡◌, ◌+◌, ◌*◌, ◌<◌};
-ghost use Rattle.diagram.specs.Memo.{Empty, Few, entries as entries_of, is_for, noted, recalled};
+ghost use Rattle.diagram.specs.Memo.{Few, entries as entries_of, is_for, noted, recalled};
 
 use crate::spread::spread;
 
@@ -52,14 +52,4 @@ pub(crate) fn note(memo: &mut [u32], key: u32, a: u32, b: u32, res: u32)
     memo[SIZE * k + FIRST] = a;
     memo[SIZE * k + SECOND] = b;
     memo[SIZE * k + RESULT] = res;
-}
-
-// Empties every entry: an entry whose key is 0 is of no rule.
-pub(crate) fn forget(memo: &mut [u32])
-    ensures { Empty memo.new }
-{
-    let entries = memo.len() / SIZE;
-    for k in 0..entries {
-        memo[SIZE * k] = 0;
-    }
 }

@@ -44,11 +44,7 @@ impl Rule {
 fn entry(entries: &[u8], i: usize) -> u32
     ensures { result ≡ entry_of entries.now i }
 {
-    if i < entries.len() {
-        (entries[i] % 8) as u32
-    } else {
-        0
-    }
+    entries.get(i).map_or(0, |e| u32::from(*e % 8))
 }
 
 // The entries as digits to the base 8, the first the lowest.
@@ -57,11 +53,9 @@ fn number(entries: &[u8]) -> u32
     ensures is { result ≡ number_of entries.now }
     ensures below { result < 134217728 }
 {
-    let mut i = entries.len();
     let mut n = 0;
-    while i > 0 {
-        i -= 1;
-        n = 8 * n + (entries[i] % 8) as u32;
+    for e in entries.iter().rev() {
+        n = 8 * n + u32::from(*e % 8);
     }
     n
 }

@@ -43,8 +43,7 @@ fn mark_roots(words: &mut [u32], fill: usize, roots: &[u32])
     ensures is { (r : ℕ) → 8 ≤ r → r < 8 + fill → marked words.new r ≡ (marked words.old r || wanted roots.now r) }
 {
     let end = LEAVES + fill as u32;
-    for i in 0..roots.len() {
-        let r = roots[i];
+    for &r in roots {
         if r < end {
             set_mark(words, r);
         }
@@ -135,9 +134,8 @@ fn translate(words: &[u32], fill: usize, roots: &mut [u32])
     requires within { fill ≤ capacity words.now }
     ensures { roots.new ≡ map (new_root words.now fill) roots.old }
 {
-    for i in 0..roots.len() {
-        let r = roots[i];
-        roots[i] = new_root(words, fill, r);
+    for r in roots.iter_mut() {
+        *r = new_root(words, fill, *r);
     }
 }
 

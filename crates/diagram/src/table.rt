@@ -29,8 +29,7 @@ fn find(words: &[u32], fill: usize, b: usize, node: Node) -> Option<u32>
     ensures { result ≡ found (stored words.now fill) node }
 {
     let mut at = words[SIZE * b + HEAD] as usize;
-    while at != 0 {
-        let k = at - 1;
+    while let Some(k) = at.checked_sub(1) {
         if node_at(words, k) == node {
             return Some(LEAVES + k as u32);
         }
@@ -86,29 +85,15 @@ pub(crate) fn make(words: &mut [u32], fill: &mut usize, node: Node) -> Result<u3
 }
 
 // Takes the newest nodes away, down to the mark, and out of their chains.
-pub(crate) fn roll_back(words: &mut [u32], fill: &mut usize, mark: usize)
-    requires chained { Chained words.old fill.old }
-    requires later { mark ≤ fill.old }
+pub(crate) fn roll_back(words: &mut [u32], fill: usize, mark: usize)
+    requires chained { Chained words.old fill }
+    requires later { mark ≤ fill }
     ensures chained { Chained words.new mark }
-    ensures fill { fill.new ≡ mark }
     ensures stored { stored words.new mark ≡ stored words.old mark }
 {
     let n = words.len() / SIZE;
-    while *fill > mark {
-        let k = *fill - 1;
+    for k in (mark..fill).rev() {
         let b = bucket_of(n, node_at(words, k));
         words[SIZE * b + HEAD] = words[SIZE * k + LINK];
-        *fill = k;
-    }
-}
-
-// Empties every chain: whatever the words held, they are a table with no nodes.
-pub(crate) fn clear(words: &mut [u32])
-    requires { capacity words.old ≤ 65536 }
-    ensures { Chained words.new 0 }
-{
-    let n = words.len() / SIZE;
-    for b in 0..n {
-        words[SIZE * b + HEAD] = 0;
     }
 }

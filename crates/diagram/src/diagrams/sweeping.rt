@@ -3,7 +3,6 @@ ghost use Rattle.diagram.specs.Held.{room_of, store_of};
 ghost use Rattle.diagram.specs.Sweeping.{Moves, swept, wanted};
 
 use super::Diagrams;
-use crate::memo::forget;
 
 impl Diagrams<'_> {
     // Keeps just the nodes that are reached from the roots, in their order, and gives each root its new reference. A root
@@ -15,7 +14,7 @@ impl Diagrams<'_> {
         ensures fewer { length (store_of self.new) ≤ length (store_of self.old) }
         ensures room { room_of self.new ≡ room_of self.old }
     {
-        forget(self.memo);
+        self.memo.fill(0);
         self.fill = crate::sweep::sweep(self.words, self.fill, roots);
     }
 }

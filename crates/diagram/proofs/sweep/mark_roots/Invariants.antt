@@ -1,5 +1,5 @@
 use Rattle.diagram.proofs.Marks.{Rooted}
 use Rattle.diagram.proofs.sweep.mark_roots.Given as goal
 
-abbrev pub invariant-loop-i : goal.invariant-loop-i
-invariant-loop-i l = Rooted l.initial.words l.fill l.roots l.words l.i
+abbrev pub invariant-loop-r : goal.invariant-loop-r
+invariant-loop-r l = Rooted l.initial.words l.fill l.roots l.words l.r-index

@@ -1,25 +1,24 @@
-use Rattle.std.proofs.Common.{◌≡◌, ◌/◌, min, length, refl, arith}
-use Rattle.diagram.specs.Words.{stored, capacity}
+use Rattle.std.proofs.Common.{◌+◌, ◌*◌, refl, arith}
+use Rattle.diagram.specs.Words.{last, stored}
 use Rattle.diagram.proofs.Lawful.{laws}
 use Rattle.diagram.proofs.Memos.{remembers_none}
+use Rattle.diagram.proofs.Words.{zeros}
 use Rattle.diagram.proofs.diagrams.Diagrams.open.Goals as goal
 
-pub invariant_of-result : goal.invariant_of-result
-unfolding stored
-invariant_of-result c =
-    let ch = c.clear.ensures in
-    record {
-      few = ch.few;
-      within = ch.within;
-      heads = ch.heads;
-      links = ch.links;
-      sound = ∣ tt ∣₁;
-      short = omega (arith, c.forget.auto.memo, c.min-entries.ensures);
-      knows = ∣ remembers_none _ _ c.forget.ensures ∣₁;
-    }
+pub invariant_of-result-clause-heads : goal.invariant_of-result-clause-heads
+unfolding last
+invariant_of-result-clause-heads c b h = zeros _ _ (c.fill.ensures.after (λ y e. e)) (7 * b + 3) (omega arith)
 
-pub returns : goal.returns
+pub invariant_of-result-clause-sound : goal.invariant_of-result-clause-sound
 unfolding stored
-returns c =
-    let is : capacity c.clear.new.words ≡ min (length c.args.words.now / 7) 65536 = omega (arith, c.clear.auto.words, c.min-nodes.ensures) in
-    record { none = refl; room = is; laws = laws }
+invariant_of-result-clause-sound c = ∣ tt ∣₁
+
+pub invariant_of-result-clause-knows : goal.invariant_of-result-clause-knows
+invariant_of-result-clause-knows c = ∣ remembers_none _ _ _ (c.fill-2.ensures.after (λ y e. e)) ∣₁
+
+pub returns-clause-none : goal.returns-clause-none
+unfolding stored
+returns-clause-none c = refl
+
+pub returns-clause-laws : goal.returns-clause-laws
+returns-clause-laws c = laws
