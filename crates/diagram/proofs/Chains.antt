@@ -1,11 +1,11 @@
 -- The chains through the buckets.
-use Rattle.std.proofs.Common.{◌≡◌, ℕ, zero, suc, ◌+◌, ◌*◌, ◌/◌, ◌<◌, ◌≤◌, true, false, cond, eqb, ◌≢◌, List, ◌∷◌, length, get_or, set, Some, None, sym, refl, ap, ◌∙◌, ⊎_elim, add-one, arith, length-set, get_or-set_other, get_or-set_same}
+use Rattle.std.proofs.Common.{◌≡◌, ℕ, zero, suc, ◌+◌, ◌*◌, ◌/◌, ◌<◌, ◌≤◌, true, false, cond, eqb, ◌≢◌, List, length, get_or, set, Some, None, sym, refl, ap, ◌∙◌, ⊎_elim, add-one, arith, length-set, get_or-set_other, get_or-set_same}
 use Rattle.std.proofs.lemmas.Bool.{eq-eqb, ne_eqb, cases_eq, cases_lt, cond-true, cond-false}
 use Rattle.diagram.specs.declared.node.Node.{Node}
-use Rattle.diagram.specs.Store.{node_of, same, found}
-use Rattle.diagram.specs.Words.{bucket, capacity, node_at, stored, last, bucket_at, Chained}
+use Rattle.diagram.specs.Store.{same, found}
+use Rattle.diagram.specs.Words.{bucket, capacity, node_at, putting, stored, last, bucket_at, Chained}
 use Rattle.diagram.proofs.Stands.{same_not}
-use Rattle.diagram.proofs.Words.{stored_ext, found_here, found_none}
+use Rattle.diagram.proofs.Words.{node_same, putting_long, putting_other, putting_node, stored_ext, found_here, found_none}
 
 -- ---- the last below
 
@@ -95,126 +95,65 @@ module _ (ws : List ℕ) (fill b : ℕ) (x : Node) (here : b ≡ bucket (capacit
 
 -- ---- a node more
 
-module _ (ws : List ℕ) (f p l h nx b v : ℕ) where
-  abbrev w1 : List ℕ
-  w1 = set ws (7 * f) p
-
-  abbrev w2 : List ℕ
-  w2 = set w1 (7 * f + 1) l
-
-  abbrev w3 : List ℕ
-  w3 = set w2 (7 * f + 2) h
-
-  abbrev w4 : List ℕ
-  w4 = set w3 (7 * f + 4) nx
-
-  abbrev pub grown : List ℕ
-  grown = set w4 (7 * b + 3) v
-
-  pub length_grown : length grown ≡ length ws
-  length_grown = simp length-set
-
-  past5 : (i : ℕ) → i ≢ 7 * b + 3 → get_or grown i 0 ≡ get_or w4 i 0
-  past5 i n = get_or-set_other w4 (7 * b + 3) i v 0 n
-
-  past4 : (i : ℕ) → i ≢ 7 * b + 3 → i ≢ 7 * f + 4 → get_or grown i 0 ≡ get_or w3 i 0
-  past4 i n m = past5 i n ∙ get_or-set_other w3 (7 * f + 4) i nx 0 m
-
-  past3 : (i : ℕ) → i ≢ 7 * b + 3 → i ≢ 7 * f + 4 → i ≢ 7 * f + 2 → get_or grown i 0 ≡ get_or w2 i 0
-  past3 i n m k = past4 i n m ∙ get_or-set_other w2 (7 * f + 2) i h 0 k
-
-  past2 : (i : ℕ) → i ≢ 7 * b + 3 → i ≢ 7 * f + 4 → i ≢ 7 * f + 2 → i ≢ 7 * f + 1 → get_or grown i 0 ≡ get_or w1 i 0
-  past2 i n m k j = past3 i n m k ∙ get_or-set_other w1 (7 * f + 1) i l 0 j
-
-  pub grown_old : (i : ℕ) → i ≢ 7 * f → i ≢ 7 * f + 1 → i ≢ 7 * f + 2 → i ≢ 7 * f + 4 → i ≢ 7 * b + 3 → get_or grown i 0 ≡ get_or ws i 0
-  grown_old i n0 n1 n2 n4 n3 = past2 i n3 n4 n2 n1 ∙ get_or-set_other ws (7 * f) i p 0 n0
-
-  module _ (room : 7 * f + 6 < length ws) (bin : 7 * b + 3 < length ws) where
-    pub grown_head : get_or grown (7 * b + 3) 0 ≡ v
-    grown_head = get_or-set_same w4 (7 * b + 3) v 0 (simp length-set bin)
-
-    pub grown_link : get_or grown (7 * f + 4) 0 ≡ nx
-    grown_link = past5 (7 * f + 4) (omega arith) ∙ get_or-set_same w3 (7 * f + 4) nx 0 (simp length-set (omega arith))
-
-    pub grown_high : get_or grown (7 * f + 2) 0 ≡ h
-    grown_high = past4 (7 * f + 2) (omega arith) (omega arith) ∙ get_or-set_same w2 (7 * f + 2) h 0 (simp length-set (omega arith))
-
-    pub grown_low : get_or grown (7 * f + 1) 0 ≡ l
-    grown_low = past3 (7 * f + 1) (omega arith) (omega arith) (omega arith) ∙ get_or-set_same w1 (7 * f + 1) l 0 (simp length-set (omega arith))
-
-    pub grown_pair : get_or grown (7 * f) 0 ≡ p
-    grown_pair = past2 (7 * f) (omega arith) (omega arith) (omega arith) (omega arith) ∙ get_or-set_same ws (7 * f) p 0 (omega arith)
-
--- what changes where a node x goes on top of the first f nodes: b is its bucket
-pub record Grows (ws vs : List ℕ) (f b : ℕ) (x : Node) : Type 0 where
-  pub long : length vs ≡ length ws
-  pub here : node_at vs f ≡ x
-  pub link : get_or vs (7 * f + 4) 0 ≡ get_or ws (7 * b + 3) 0
-  pub head : get_or vs (7 * b + 3) 0 ≡ f + 1
-  pub olds : (k : ℕ) → k < f → node_at vs k ≡ node_at ws k
-  pub links : (k : ℕ) → k < f → get_or vs (7 * k + 4) 0 ≡ get_or ws (7 * k + 4) 0
-  pub heads : (k : ℕ) → k ≢ b → get_or vs (7 * k + 3) 0 ≡ get_or ws (7 * k + 3) 0
-
-pub grows : (ws : List ℕ) (f p l h b : ℕ) → f < capacity ws → b < capacity ws → Grows ws (grown ws f p l h (get_or ws (7 * b + 3) 0) b (f + 1)) f b (node_of p l h)
-grows ws f p l h b room bin =
-    let nx : ℕ = get_or ws (7 * b + 3) 0 in
-    let r : 7 * f + 6 < length ws = omega arith in
-    let q : 7 * b + 3 < length ws = omega arith in
-    let e0 = grown_pair ws f p l h nx b (f + 1) r q in
-    let e1 = grown_low ws f p l h nx b (f + 1) r q in
-    let e2 = grown_high ws f p l h nx b (f + 1) r q in
-    let old = grown_old ws f p l h nx b (f + 1) in
+-- the words of the node that is to come do not matter to the chains
+pub put_chained : (ws : List ℕ) (f : ℕ) (n : Node) → Chained ws f → Chained (putting ws f n) f
+unfolding bucket_at
+put_chained ws f n ch =
+    let vs = putting ws f n in
+    let long = putting_long ws f n in
+    let buckets : (k : ℕ) → k < f → bucket_at ws k ≡ bucket_at vs k = λ k h i. bucket (sym long i / 7) (sym (putting_node ws f n k (omega arith)) i) in
+    let lasts : (m k : ℕ) → m ≤ f → last (bucket_at ws) m k ≡ last (bucket_at vs) m k = λ m k le. last_ext (bucket_at ws) (bucket_at vs) m k (λ j h. buckets j (omega arith)) in
     record {
-      long = length_grown ws f p l h nx b (f + 1);
-      here = λ i. node_of (e0 i) (e1 i) (e2 i);
-      link = grown_link ws f p l h nx b (f + 1) r q;
-      head = grown_head ws f p l h nx b (f + 1) r q;
-      olds = λ k lt.
-          let word0 = old (7 * k) (omega arith) (omega arith) (omega arith) (omega arith) (omega arith) in
-          let word1 = old (7 * k + 1) (omega arith) (omega arith) (omega arith) (omega arith) (omega arith) in
-          let word2 = old (7 * k + 2) (omega arith) (omega arith) (omega arith) (omega arith) (omega arith) in
-          λ i. node_of (word0 i) (word1 i) (word2 i);
-      links = λ k lt. old (7 * k + 4) (omega arith) (omega arith) (omega arith) (omega arith) (omega arith);
-      heads = λ k ne. old (7 * k + 3) (omega arith) (omega arith) (omega arith) (omega arith) (omega arith);
+      few = omega (arith, ch.few);
+      within = omega (arith, ch.within);
+      heads = λ b h. putting_other ws f n (7 * b + 3) (omega arith) (omega arith) (omega arith) ∙ ch.heads b (omega arith) ∙ lasts f b (omega arith);
+      links = λ k h. putting_other ws f n (7 * k + 4) (omega arith) (omega arith) (omega arith) ∙ ch.links k h ∙ lasts k (bucket_at ws k) (omega arith) ∙ ap (last (bucket_at vs) k) (buckets k h);
     }
 
-module _ (ws vs : List ℕ) (f b : ℕ) (x : Node) (chained : Chained ws f) (room : f < capacity ws) (bin : b < capacity ws) (is : b ≡ bucket (capacity ws) x) (g : Grows ws vs f b x) where
-  grown_buckets : (k : ℕ) → k < f → bucket_at vs k ≡ bucket_at ws k
+-- the newest node, k, goes to the head of its bucket's chain
+module _ (ws : List ℕ) (k b : ℕ) (chained : Chained ws k) (room : k < capacity ws) (bin : b < capacity ws) (is : b ≡ bucket_at ws k) where
+  abbrev linked : List ℕ
+  linked = set ws (7 * k + 4) (get_or ws (7 * b + 3) 0)
+
+  abbrev entered : List ℕ
+  entered = set linked (7 * b + 3) (k + 1)
+
+  entered_other : (i : ℕ) → i ≢ 7 * b + 3 → i ≢ 7 * k + 4 → get_or entered i 0 ≡ get_or ws i 0
+  entered_other i n₃ n₄ = get_or-set_other linked (7 * b + 3) i (k + 1) 0 n₃ ∙ get_or-set_other ws (7 * k + 4) i (get_or ws (7 * b + 3) 0) 0 n₄
+
+  entered_long : length entered ≡ length ws
+  entered_long = simp length-set
+
+  pub entered_node : (j : ℕ) → node_at entered j ≡ node_at ws j
+  entered_node j = node_same ws entered j (λ i lo hi. entered_other i (omega arith) (omega arith))
+
+  entered_bucket : (j : ℕ) → bucket_at ws j ≡ bucket_at entered j
   unfolding bucket_at
-  grown_buckets k lt = λ i. bucket (g.long i / 7) (g.olds k lt i)
+  entered_bucket j = λ i. bucket (sym entered_long i / 7) (sym (entered_node j) i)
 
-  grown_bucket : bucket_at vs f ≡ b
-  unfolding bucket_at
-  grown_bucket = (λ i. bucket (g.long i / 7) (g.here i)) ∙ sym is
+  entered_last : (m x : ℕ) → last (bucket_at ws) m x ≡ last (bucket_at entered) m x
+  entered_last m x = last_ext (bucket_at ws) (bucket_at entered) m x (λ j h. entered_bucket j)
 
-  pub grown_stored : stored vs (f + 1) ≡ x ∷ stored ws f
-  unfolding stored
-  grown_stored =
-      ap (stored vs) (add-one f) ∙ (λ i. g.here i ∷ stored_ext vs ws f g.olds i)
-
-  grown_last : (m k : ℕ) → m ≤ f → last (bucket_at ws) m k ≡ last (bucket_at vs) m k
-  grown_last m k le = last_ext (bucket_at ws) (bucket_at vs) m k (λ j h. sym (grown_buckets j (omega arith)))
-
-  pub grown_chained : Chained vs (f + 1)
-  grown_chained = record {
-    few = omega (arith, g.long, chained.few);
-    within = omega (arith, g.long);
-    heads = λ k lt. ⊎_elim
-        (λ (s : k ≡ b).
-        ap (λ j. get_or vs (7 * j + 3) 0) s ∙ g.head ∙ add-one f
-        ∙ sym (last_here (bucket_at vs) f k (grown_bucket ∙ sym s)) ∙ ap (λ m. last (bucket_at vs) m k) (sym (add-one f)))
-        (λ (s : k ≡ b → ⊥).
-        g.heads k s ∙ chained.heads k (omega (arith, g.long)) ∙ grown_last f k (omega arith)
-        ∙ sym (last_skip (bucket_at vs) f k (λ e. s (sym e ∙ grown_bucket))) ∙ ap (λ m. last (bucket_at vs) m k) (sym (add-one f)))
-        (cases_eq k b);
-    links = λ k lt. ⊎_elim
-        (λ (s : k ≡ f).
-        ap (λ j. get_or vs (7 * j + 4) 0) s ∙ g.link ∙ chained.heads b bin ∙ grown_last f b (omega arith)
-        ∙ ap (last (bucket_at vs) f) (sym grown_bucket) ∙ ap (λ j. last (bucket_at vs) j (bucket_at vs j)) (sym s))
-        (λ (s : k ≡ f → ⊥).
-        let h : k < f = omega arith in
-        g.links k h ∙ chained.links k h ∙ grown_last k (bucket_at ws k) (omega arith) ∙ ap (last (bucket_at vs) k) (sym (grown_buckets k h)))
-        (cases_eq k f);
+  pub entered_chained : Chained entered (k + 1)
+  entered_chained = record {
+    few = omega (arith, entered_long, chained.few);
+    within = omega (arith, entered_long);
+    heads = λ x lt. ⊎_elim
+        (λ (s : x ≡ b).
+        ap (λ j. get_or entered (7 * j + 3) 0) s ∙ get_or-set_same linked (7 * b + 3) (k + 1) 0 (simp length-set (omega arith)) ∙ add-one k
+        ∙ sym (last_here (bucket_at entered) k x (sym (entered_bucket k) ∙ sym is ∙ sym s)) ∙ ap (λ m. last (bucket_at entered) m x) (sym (add-one k)))
+        (λ (s : x ≡ b → ⊥).
+        entered_other (7 * x + 3) (omega arith) (omega arith) ∙ chained.heads x (omega (arith, entered_long)) ∙ entered_last k x
+        ∙ sym (last_skip (bucket_at entered) k x (λ e. s (sym e ∙ sym (entered_bucket k) ∙ sym is))) ∙ ap (λ m. last (bucket_at entered) m x) (sym (add-one k)))
+        (cases_eq x b);
+    links = λ j lt. ⊎_elim
+        (λ (s : j ≡ k).
+        ap (λ x. get_or entered (7 * x + 4) 0) s ∙ get_or-set_other linked (7 * b + 3) (7 * k + 4) (k + 1) 0 (omega arith) ∙ get_or-set_same ws (7 * k + 4) (get_or ws (7 * b + 3) 0) 0 (omega arith)
+        ∙ chained.heads b bin ∙ entered_last k b ∙ ap (last (bucket_at entered) k) (is ∙ entered_bucket k) ∙ ap (λ x. last (bucket_at entered) x (bucket_at entered x)) (sym s))
+        (λ (s : j ≡ k → ⊥).
+        let h : j < k = omega arith in
+        entered_other (7 * j + 4) (omega arith) (omega arith) ∙ chained.links j h ∙ entered_last j (bucket_at ws j) ∙ ap (last (bucket_at entered) j) (entered_bucket j))
+        (cases_eq j k);
   }
 
 -- ---- a node fewer
@@ -230,11 +169,7 @@ module _ (ws : List ℕ) (m : ℕ) (chained : Chained ws (m + 1)) where
   shrunk_long = simp length-set
 
   pub shrunk_node : (k : ℕ) → node_at shrunk k ≡ node_at ws k
-  shrunk_node k =
-      let word0 = shrunk_old (7 * k) (omega arith) in
-      let word1 = shrunk_old (7 * k + 1) (omega arith) in
-      let word2 = shrunk_old (7 * k + 2) (omega arith) in
-      λ i. node_of (word0 i) (word1 i) (word2 i)
+  shrunk_node k = node_same ws shrunk k (λ i lo hi. shrunk_old i (omega arith))
 
   shrunk_bucket : (k : ℕ) → bucket_at shrunk k ≡ bucket_at ws k
   unfolding bucket_at

@@ -4,12 +4,12 @@ use Rattle.std.proofs.lemmas.List.{drop_more, drop_all}
 use Rattle.std.proofs.lemmas.Bool.{eq-eqb, ne_eqb, lt-ltb, le-ltb, cond-true, cond-false, cond_both, cases_eq, cases_lt, or_right, both_ways}
 use Rattle.diagram.specs.declared.node.Node.{Node}
 use Rattle.diagram.specs.Store.{Store, node_of, Sound}
-use Rattle.diagram.specs.Sweeping.{wanted, wanted_parts, Swept, keep_node, swept, reached, packed, mark_at, marked, marking, OnlyMarks, Closed, new_at, new_root, putting}
-use Rattle.diagram.specs.Words.{capacity, node_at, stored, last, bucket_at, Chained}
-use Rattle.diagram.proofs.Chains.{last_skip, Grows, grown_chained, cleared_chained}
+use Rattle.diagram.specs.Sweeping.{wanted, wanted_parts, Swept, keep_node, swept, reached, packed, mark_at, marked, marking, OnlyMarks, Closed, new_at, new_root}
+use Rattle.diagram.specs.Words.{capacity, node_at, putting, stored, last, bucket_at, Chained}
+use Rattle.diagram.proofs.Chains.{last_skip, cleared_chained}
 use Rattle.diagram.proofs.Counts.{older_parts}
 use Rattle.diagram.proofs.Sweeps.{reached_more, reached_ext, reached_parts, packed_ext, packed_other, swept-packed, map_wanted}
-use Rattle.diagram.proofs.Words.{length-stored, stored_ext}
+use Rattle.diagram.proofs.Words.{length-stored, node_same, putting_long, putting_other, putting_here, stored_ext}
 
 -- ---- tests
 
@@ -24,13 +24,6 @@ or_assoc false b c = refl
 -- ---- words
 
 -- a node is read from its first three words
-node_same : (ws vs : List ℕ) (k : ℕ) → ((i : ℕ) → 7 * k ≤ i → i ≤ 7 * k + 2 → get_or vs i 0 ≡ get_or ws i 0) → node_at vs k ≡ node_at ws k
-node_same ws vs k same =
-    let word0 = same (7 * k) (omega arith) (omega arith) in
-    let word1 = same (7 * k + 1) (omega arith) (omega arith) in
-    let word2 = same (7 * k + 2) (omega arith) (omega arith) in
-    λ i. node_of (word0 i) (word1 i) (word2 i)
-
 -- a leaf's new reference is its own, and a node's is its mark
 new_at_is : (ws : List ℕ) (r x : ℕ) → (r < 8 → r ≡ x) → (8 ≤ r → mark_at ws (r - 8) ≡ x) → new_at ws r ≡ x
 new_at_is ws r x leaf node = ⊎_elim
@@ -194,30 +187,17 @@ packed_more ws k =
 
 -- the words once the node n of reference 8 + k has moved to place j
 module _ (vs : List ℕ) (k j : ℕ) (n : Node) (le : j ≤ k) (room : k < capacity vs) where
-  abbrev w₁ : List ℕ
-  w₁ = set vs (7 * j) n.pair
-
-  abbrev w₂ : List ℕ
-  w₂ = set w₁ (7 * j + 1) n.low
-
   abbrev pub moved : List ℕ
   moved = set (putting vs j n) (7 * k + 5) (8 + j)
 
-  moved_past : (i : ℕ) → i ≢ 7 * k + 5 → i ≢ 7 * j + 2 → i ≢ 7 * j + 1 → get_or moved i 0 ≡ get_or w₁ i 0
-  moved_past i n₅ n₂ n₁ = get_or-set_other (putting vs j n) (7 * k + 5) i (8 + j) 0 n₅ ∙ get_or-set_other w₂ (7 * j + 2) i n.high 0 n₂ ∙ get_or-set_other w₁ (7 * j + 1) i n.low 0 n₁
-
   moved_other : (i : ℕ) → i ≢ 7 * k + 5 → i ≢ 7 * j + 2 → i ≢ 7 * j + 1 → i ≢ 7 * j → get_or moved i 0 ≡ get_or vs i 0
-  moved_other i n₅ n₂ n₁ n₀ = moved_past i n₅ n₂ n₁ ∙ get_or-set_other vs (7 * j) i n.pair 0 n₀
+  moved_other i n₅ n₂ n₁ n₀ = get_or-set_other (putting vs j n) (7 * k + 5) i (8 + j) 0 n₅ ∙ putting_other vs j n i n₀ n₁ n₂
 
   moved_mark : mark_at moved k ≡ 8 + j
-  moved_mark = get_or-set_same (putting vs j n) (7 * k + 5) (8 + j) 0 (simp length-set (omega arith))
+  moved_mark = get_or-set_same (putting vs j n) (7 * k + 5) (8 + j) 0 (omega (arith, putting_long vs j n))
 
   moved_here : node_at moved j ≡ n
-  moved_here =
-      let word0 = moved_past (7 * j) (omega arith) (omega arith) (omega arith) ∙ get_or-set_same vs (7 * j) n.pair 0 (omega arith) in
-      let word1 = get_or-set_other (putting vs j n) (7 * k + 5) (7 * j + 1) (8 + j) 0 (omega arith) ∙ get_or-set_other w₂ (7 * j + 2) (7 * j + 1) n.high 0 (omega arith) ∙ get_or-set_same w₁ (7 * j + 1) n.low 0 (simp length-set (omega arith)) in
-      let word2 = get_or-set_other (putting vs j n) (7 * k + 5) (7 * j + 2) (8 + j) 0 (omega arith) ∙ get_or-set_same w₂ (7 * j + 2) n.high 0 (simp length-set (omega arith)) in
-      λ i. node_of (word0 i) (word1 i) (word2 i)
+  moved_here = node_same (putting vs j n) moved j (λ i lo hi. get_or-set_other (putting vs j n) (7 * k + 5) i (8 + j) 0 (omega arith)) ∙ putting_here vs j n (omega arith)
 
   moved_node : (i : ℕ) → i ≢ j → node_at moved i ≡ node_at vs i
   moved_node i ne = node_same vs moved i (λ x lo hi. moved_other x (omega arith) (omega arith) (omega arith) (omega arith))
@@ -295,34 +275,6 @@ module _ (ws : List ℕ) (fill : ℕ) (vs : List ℕ) (k j : ℕ) (old : Packing
 pub record Linked (ws vs : List ℕ) (k : ℕ) : Type 0 where
   pub chained : Chained vs k
   pub nodes : (i : ℕ) → node_at vs i ≡ node_at ws i
-
-module _ (ws vs : List ℕ) (k b : ℕ) (old : Linked ws vs k) (room : k < capacity vs) (bin : b < capacity vs) (is : b ≡ bucket_at vs k) where
-  abbrev l₁ : List ℕ
-  l₁ = set vs (7 * k + 4) (get_or vs (7 * b + 3) 0)
-
-  abbrev linked : List ℕ
-  linked = set l₁ (7 * b + 3) (k + 1)
-
-  linked_other : (i : ℕ) → i ≢ 7 * b + 3 → i ≢ 7 * k + 4 → get_or linked i 0 ≡ get_or vs i 0
-  linked_other i n₃ n₄ = get_or-set_other l₁ (7 * b + 3) i (k + 1) 0 n₃ ∙ get_or-set_other vs (7 * k + 4) i (get_or vs (7 * b + 3) 0) 0 n₄
-
-  linked_node : (i : ℕ) → node_at linked i ≡ node_at vs i
-  linked_node i = node_same vs linked i (λ x lo hi. linked_other x (omega arith) (omega arith))
-
-  grows : Grows vs linked k b (node_at vs k)
-  grows = record {
-    long = simp length-set;
-    here = linked_node k;
-    link = get_or-set_other l₁ (7 * b + 3) (7 * k + 4) (k + 1) 0 (omega arith) ∙ get_or-set_same vs (7 * k + 4) (get_or vs (7 * b + 3) 0) 0 (omega arith);
-    head = get_or-set_same l₁ (7 * b + 3) (k + 1) 0 (simp length-set (omega arith));
-    olds = λ i h. linked_node i;
-    links = λ i h. linked_other (7 * i + 4) (omega arith) (omega arith);
-    heads = λ i ne. linked_other (7 * i + 3) (omega arith) (omega arith);
-  }
-
-  pub linked_more : Linked ws linked (k + 1)
-  unfolding bucket_at
-  linked_more = record { chained = grown_chained vs linked k b (node_at vs k) old.chained room bin is grows; nodes = λ i. linked_node i ∙ old.nodes i }
 
 -- ---- the whole
 

@@ -1,10 +1,10 @@
 -- The nodes that words store.
-use Rattle.std.proofs.Common.{◌≡◌, ℕ, zero, suc, ◌+◌, ◌-◌, ◌<◌, ◌≤◌, true, false, List, [], ◌∷◌, length, replicate, get_or, drop, Some, None, sym, refl, ap, ◌∙◌, subst, ⊎_elim, suc-add, zero-add, arith}
+use Rattle.std.proofs.Common.{◌≡◌, ℕ, zero, suc, ◌+◌, ◌-◌, ◌*◌, ◌<◌, ◌≤◌, true, false, List, [], ◌∷◌, length, replicate, get_or, set, ◌≢◌, drop, Some, None, sym, refl, ap, ◌∙◌, subst, ⊎_elim, suc-add, zero-add, add-one, arith, length-set, get_or-set_other, get_or-set_same}
 use Rattle.std.proofs.lemmas.Bool.{cond-true, cond-false, cases_lt, cases_eq}
 use Rattle.std.proofs.lemmas.List.{get_or-replicate, length-replicate}
 use Rattle.diagram.specs.declared.node.Node.{Node}
-use Rattle.diagram.specs.Store.{Store, same, found, Grown, still, newer}
-use Rattle.diagram.specs.Words.{node_at, stored}
+use Rattle.diagram.specs.Store.{Store, node_of, same, found, Grown, still, newer}
+use Rattle.diagram.specs.Words.{node_at, putting, stored}
 use Rattle.diagram.proofs.Stands.{Standing, newest, standing_grown}
 
 pub length-stored : (ws : List ℕ) (k : ℕ) → length (stored ws k) ≡ k
@@ -15,6 +15,38 @@ length-stored ws (suc k) = ap suc (length-stored ws k)
 pub zeros : (ws : List ℕ) (n : ℕ) → ws ≡ replicate n 0 → (i : ℕ) → i < length ws → get_or ws i 0 ≡ 0
 zeros ws n e i h = ap (λ us. get_or us i 0) e ∙ get_or-replicate n i 0 0 (omega (arith, ap length e, length-replicate {A = ℕ} n 0))
 
+-- a node is alike where its three words are
+pub node_same : (ws vs : List ℕ) (k : ℕ) → ((i : ℕ) → 7 * k ≤ i → i ≤ 7 * k + 2 → get_or vs i 0 ≡ get_or ws i 0) → node_at vs k ≡ node_at ws k
+node_same ws vs k same =
+    let word0 = same (7 * k) (omega arith) (omega arith) in
+    let word1 = same (7 * k + 1) (omega arith) (omega arith) in
+    let word2 = same (7 * k + 2) (omega arith) (omega arith) in
+    λ i. node_of (word0 i) (word1 i) (word2 i)
+
+-- what writing a node changes
+module _ (ws : List ℕ) (k : ℕ) (n : Node) where
+  abbrev w₁ : List ℕ
+  w₁ = set ws (7 * k) n.pair
+
+  abbrev w₂ : List ℕ
+  w₂ = set w₁ (7 * k + 1) n.low
+
+  pub putting_long : length (putting ws k n) ≡ length ws
+  putting_long = simp length-set
+
+  pub putting_other : (i : ℕ) → i ≢ 7 * k → i ≢ 7 * k + 1 → i ≢ 7 * k + 2 → get_or (putting ws k n) i 0 ≡ get_or ws i 0
+  putting_other i n₀ n₁ n₂ = get_or-set_other w₂ (7 * k + 2) i n.high 0 n₂ ∙ get_or-set_other w₁ (7 * k + 1) i n.low 0 n₁ ∙ get_or-set_other ws (7 * k) i n.pair 0 n₀
+
+  pub putting_here : 7 * k + 2 < length ws → node_at (putting ws k n) k ≡ n
+  putting_here room =
+      let word0 = get_or-set_other w₂ (7 * k + 2) (7 * k) n.high 0 (omega arith) ∙ get_or-set_other w₁ (7 * k + 1) (7 * k) n.low 0 (omega arith) ∙ get_or-set_same ws (7 * k) n.pair 0 (omega arith) in
+      let word1 = get_or-set_other w₂ (7 * k + 2) (7 * k + 1) n.high 0 (omega arith) ∙ get_or-set_same w₁ (7 * k + 1) n.low 0 (simp length-set (omega arith)) in
+      let word2 = get_or-set_same w₂ (7 * k + 2) n.high 0 (simp length-set (omega arith)) in
+      λ i. node_of (word0 i) (word1 i) (word2 i)
+
+  pub putting_node : (j : ℕ) → j ≢ k → node_at (putting ws k n) j ≡ node_at ws j
+  putting_node j ne = node_same ws (putting ws k n) j (λ i lo hi. putting_other i (omega arith) (omega arith) (omega arith))
+
 pub stored_ext : (ws vs : List ℕ) (m : ℕ) → ((k : ℕ) → k < m → node_at ws k ≡ node_at vs k) → stored ws m ≡ stored vs m
 unfolding stored
 stored_ext ws vs zero e = refl
@@ -22,6 +54,12 @@ stored_ext ws vs (suc m) e =
     let rest = stored_ext ws vs m (λ k h. e k (omega arith)) in
     let here = e m (omega arith) in
     cc
+
+-- a node was written on top, and no node has changed since
+pub stored_put : (ws vs : List ℕ) (f : ℕ) (n : Node) → 7 * f + 2 < length ws → ((k : ℕ) → node_at vs k ≡ node_at (putting ws f n) k) → stored vs (f + 1) ≡ n ∷ stored ws f
+unfolding stored
+stored_put ws vs f n room same =
+    ap (stored vs) (add-one f) ∙ (λ i. (same f ∙ putting_here ws f n room) i ∷ stored_ext vs ws f (λ k h. same k ∙ putting_node ws f n k (omega arith)) i)
 
 pub found_here : (ws : List ℕ) (m : ℕ) (x : Node) (k : ℕ) → k < m → same (node_at ws k) x ≡ true
     → ((j : ℕ) → k < j → j < m → same (node_at ws j) x ≡ false) → found (stored ws m) x ≡ Some (8 + k)

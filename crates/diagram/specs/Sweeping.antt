@@ -86,7 +86,3 @@ new_at words r = cond (nat_lt r 8) r (mark_at words (r - 8))
 -- a root's new reference; one that does not stand among the first `fill` nodes is left as it is
 abbrev pub new_root : List ℕ → ℕ → ℕ → ℕ
 new_root words fill r = cond (nat_lt r (8 + fill)) (new_at words r) r
-
--- the words, with this node at place k
-abbrev pub putting : List ℕ → ℕ → Node → List ℕ
-putting words k n = slice_set (slice_set (slice_set words (7 * k) n.pair) (7 * k + 1) n.low) (7 * k + 2) n.high

@@ -1,5 +1,5 @@
 -- How nodes, buckets and chains stand in the words: seven words to a node.
-use Rattle.std.specs.Prelude.{◌≡◌, ℕ, zero, suc, ◌+◌, ◌*◌, ◌/◌, ◌<◌, ◌≤◌, cond, List, [], ◌∷◌, length, ◌==◌, slice_index}
+use Rattle.std.specs.Prelude.{◌≡◌, ℕ, zero, suc, ◌+◌, ◌*◌, ◌/◌, ◌<◌, ◌≤◌, cond, List, [], ◌∷◌, length, ◌==◌, slice_index, slice_set}
 use Rattle.diagram.specs.declared.node.Node.{Node}
 use Rattle.diagram.specs.Spread.{spread}
 use Rattle.diagram.specs.Store.{Store, node_of}
@@ -11,6 +11,10 @@ capacity words = length words / 7
 -- node k, from the first three of its seven words
 abbrev pub node_at : List ℕ → ℕ → Node
 node_at words k = node_of (slice_index words (7 * k)) (slice_index words (7 * k + 1)) (slice_index words (7 * k + 2))
+
+-- the words, with this node at place k
+abbrev pub putting : List ℕ → ℕ → Node → List ℕ
+putting words k n = slice_set (slice_set (slice_set words (7 * k) n.pair) (7 * k + 1) n.low) (7 * k + 2) n.high
 
 -- the first k nodes, newest first
 unfoldable pub stored : List ℕ → ℕ → Store

@@ -1,5 +1,5 @@
 ghost use Rattle.std.specs.Prelude.{◌≡◌, ◌+◌, ◌*◌, ◌≤◌, length};
-ghost use Rattle.diagram.specs.Words.{node_at};
+ghost use Rattle.diagram.specs.Words.{node_at, putting};
 
 // A test of one pair: where the query has the pair, the high reference goes on, else the low one.
 #[derive(Clone, Copy, Debug, PartialEq, Eq)]
@@ -32,4 +32,14 @@ pub(crate) fn node_at(words: &[u32], k: usize) -> Node
         low: words[SIZE * k + LOW],
         high: words[SIZE * k + HIGH],
     }
+}
+
+// Writes node k.
+pub(crate) fn put_node(words: &mut [u32], k: usize, node: Node)
+    requires { 7 * k + 7 ≤ length words.old }
+    ensures { words.new ≡ putting words.old k node }
+{
+    words[SIZE * k] = node.pair;
+    words[SIZE * k + LOW] = node.low;
+    words[SIZE * k + HIGH] = node.high;
 }

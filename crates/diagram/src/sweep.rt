@@ -1,11 +1,11 @@
 ghost use Rattle.std.specs.Prelude.{◌≡◌, ℕ, ◌+◌, ◌-◌, ◌*◌, ◌<◌, ◌≤◌, true, ◌||◌, map, length, slice_index};
 ghost use Rattle.diagram.specs.Store.{Sound};
-ghost use Rattle.diagram.specs.Sweeping.{Closed, OnlyMarks, mark_at, marked, marking, new_at, new_root, packed, putting, reached, swept, wanted};
+ghost use Rattle.diagram.specs.Sweeping.{Closed, OnlyMarks, mark_at, marked, marking, new_at, new_root, packed, reached, swept, wanted};
 ghost use Rattle.diagram.specs.Words.{Chained, capacity, node_at, stored};
 
 use crate::LEAVES;
-use crate::node::{COUNT, HEAD, HIGH, LINK, LOW, Node, SIZE, node_at};
-use crate::table::bucket_of;
+use crate::node::{COUNT, HEAD, Node, SIZE, node_at, put_node};
+use crate::table::{bucket_of, enter};
 
 // A node's mark stands where its count would: 0 for none, and once the node has moved, its new reference.
 const MARK: usize = COUNT;
@@ -18,6 +18,7 @@ fn wipe(words: &mut [u32], fill: usize)
     ensures nodes { (k : ℕ) → node_at words.new k ≡ node_at words.old k }
 {
     let n = words.len() / SIZE;
+    // by number: each turn also writes the head of a bucket, in the words of another node
     for k in 0..fill {
         let b = bucket_of(n, node_at(words, k));
         words[SIZE * b + HEAD] = 0;
@@ -57,6 +58,7 @@ fn mark_parts(words: &mut [u32], fill: usize)
     ensures only { OnlyMarks words.old words.new }
     ensures is { (r : ℕ) → 8 ≤ r → r < 8 + fill → marked words.new r ≡ reached (stored words.old fill) (marked words.old) r }
 {
+    // by number: each turn also writes the marks of two other nodes
     for k in (0..fill).rev() {
         if words[SIZE * k + MARK] != 0 {
             let node = node_at(words, k);
@@ -78,16 +80,6 @@ fn new_at(words: &[u32], r: u32) -> u32
     }
 }
 
-// Writes a node to a place.
-fn put(words: &mut [u32], k: usize, node: Node)
-    requires { 7 * k + 7 ≤ length words.old }
-    ensures { words.new ≡ putting words.old k node }
-{
-    words[SIZE * k] = node.pair;
-    words[SIZE * k + LOW] = node.low;
-    words[SIZE * k + HIGH] = node.high;
-}
-
 // Moves the marked nodes down to the first places, in their order; how many they are. Each has the new references of its
 // parts, which are older and have moved before it, and its mark becomes its own new reference.
 fn pack(words: &mut [u32], fill: usize) -> usize
@@ -101,13 +93,14 @@ fn pack(words: &mut [u32], fill: usize) -> usize
     ensures heads { (b : ℕ) → slice_index words.new (7 * b + 3) ≡ slice_index words.old (7 * b + 3) }
 {
     let mut place = 0;
+    // by number: each turn reads the marks of two other nodes, and writes a third
     for k in 0..fill {
         if words[SIZE * k + MARK] != 0 {
             let node = node_at(words, k);
             let low = new_at(words, node.low);
             let high = new_at(words, node.high);
             let pair = node.pair;
-            put(words, place, Node { pair, low, high });
+            put_node(words, place, Node { pair, low, high });
             words[SIZE * k + MARK] = LEAVES + place as u32;
             place += 1;
         }
@@ -147,10 +140,10 @@ fn link(words: &mut [u32], fill: usize)
     ensures stored { stored words.new fill ≡ stored words.old fill }
 {
     let n = words.len() / SIZE;
+    // by number: each turn also writes the head of a bucket, in the words of another node
     for k in 0..fill {
         let b = bucket_of(n, node_at(words, k));
-        words[SIZE * k + LINK] = words[SIZE * b + HEAD];
-        words[SIZE * b + HEAD] = (k + 1) as u32;
+        enter(words, k, b);
     }
 }
 

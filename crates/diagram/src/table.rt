@@ -1,10 +1,10 @@
-ghost use Rattle.std.specs.Prelude.{◌≡◌, ◌+◌, ◌-◌, ◌*◌, ◌/◌, ◌<◌, ◌≤◌, true, ◌∷◌, is_err};
+ghost use Rattle.std.specs.Prelude.{◌≡◌, ℕ, ◌+◌, ◌-◌, ◌*◌, ◌/◌, ◌<◌, ◌≤◌, true, ◌∷◌, is_err};
 ghost use Rattle.diagram.specs.Store.{Fits, Sound, found, made};
 ghost use Rattle.diagram.specs.Told.{Kept, Told};
-ghost use Rattle.diagram.specs.Words.{Chained, bucket, capacity, stored};
+ghost use Rattle.diagram.specs.Words.{Chained, bucket, capacity, node_at, stored};
 
 use crate::LEAVES;
-use crate::node::{HEAD, HIGH, LINK, LOW, Node, SIZE, node_at};
+use crate::node::{HEAD, LINK, Node, SIZE, node_at, put_node};
 use crate::spread::spread;
 
 // The table has no room for a node that is needed.
@@ -38,21 +38,17 @@ fn find(words: &[u32], fill: usize, b: usize, node: Node) -> Option<u32>
     None
 }
 
-// Puts the node on top, at the head of its bucket's chain.
-fn add(words: &mut [u32], fill: usize, b: usize, node: Node)
-    requires chained { Chained words.old fill }
-    requires room { fill < capacity words.old }
-    requires here { b ≡ bucket (capacity words.old) node }
+// Enters node k, the newest, at the head of its bucket's chain.
+pub(crate) fn enter(words: &mut [u32], k: usize, b: usize)
+    requires chained { Chained words.old k }
+    requires room { k < capacity words.old }
+    requires here { b ≡ bucket (capacity words.old) (node_at words.old k) }
     requires below { b < capacity words.old }
-    ensures chained { Chained words.new (fill + 1) }
-    ensures stored { stored words.new (fill + 1) ≡ node ∷ stored words.old fill }
+    ensures chained { Chained words.new (k + 1) }
+    ensures nodes { (j : ℕ) → node_at words.new j ≡ node_at words.old j }
 {
-    let head = words[SIZE * b + HEAD];
-    words[SIZE * fill] = node.pair;
-    words[SIZE * fill + LOW] = node.low;
-    words[SIZE * fill + HIGH] = node.high;
-    words[SIZE * fill + LINK] = head;
-    words[SIZE * b + HEAD] = (fill + 1) as u32;
+    words[SIZE * k + LINK] = words[SIZE * b + HEAD];
+    words[SIZE * b + HEAD] = (k + 1) as u32;
 }
 
 // A reference for the node: its low part where the parts are equal, else the standing node that equals it, else a new one.
@@ -79,7 +75,8 @@ pub(crate) fn make(words: &mut [u32], fill: &mut usize, node: Node) -> Result<u3
     if k >= n {
         return Err(TableFull);
     }
-    add(words, k, b, node);
+    put_node(words, k, node);
+    enter(words, k, b);
     *fill = k + 1;
     Ok(LEAVES + k as u32)
 }
@@ -92,6 +89,7 @@ pub(crate) fn roll_back(words: &mut [u32], fill: usize, mark: usize)
     ensures stored { stored words.new mark ≡ stored words.old mark }
 {
     let n = words.len() / SIZE;
+    // by number: each turn writes the head of a bucket, in the words of another node
     for k in (mark..fill).rev() {
         let b = bucket_of(n, node_at(words, k));
         words[SIZE * b + HEAD] = words[SIZE * k + LINK];

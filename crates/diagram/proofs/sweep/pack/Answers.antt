@@ -1,7 +1,7 @@
 use Rattle.std.proofs.Common.{◌≡◌, ◌+◌, ◌*◌, ◌<◌, set, sym, ◌∙◌, subst, arith}
 use Rattle.diagram.specs.declared.node.Node.{Node}
 use Rattle.diagram.specs.Store.{node_of}
-use Rattle.diagram.specs.Sweeping.{putting}
+use Rattle.diagram.specs.Words.{putting}
 use Rattle.diagram.proofs.Counts.{older_parts}
 use Rattle.diagram.proofs.Marks.{Packing, packing_none, packing_left, packing_taken}
 use Rattle.diagram.proofs.sweep.pack.Goals as goal
@@ -23,8 +23,8 @@ new_at-low-requires c = omega (arith, (older (goal.at.new_at-low-requires c).Aft
 pub new_at-high-requires : goal.new_at-high-requires
 new_at-high-requires c = omega (arith, (older (goal.at.new_at-high-requires c).After-node_at-node).1)
 
-pub put-requires : goal.put-requires
-put-requires c = omega (arith, c.loop-k.invariant.fewer)
+pub put_node-requires : goal.put_node-requires
+put_node-requires c = omega (arith, c.loop-k.invariant.fewer)
 
 pub overflow_cast-words : goal.overflow_cast-words
 overflow_cast-words c = omega (arith, c.loop-k.invariant.fewer)
@@ -45,7 +45,7 @@ loop-k-preserved c =
     elim c.if-words-k-ne0.branch [
       | then-words-k-ne0 w ↦
           let n : Node = node_of w.node_at-node.result.pair w.new_at-low.result w.new_at-high.result in
-          let is : c.if-words-k-ne0.words ≡ set (putting vs j n) (7 * k + 5) (8 + j) = w.words-is ∙ (λ i. set (w.put.ensures i) (7 * k + 5) (8 + j)) in
+          let is : c.if-words-k-ne0.words ≡ set (putting vs j n) (7 * k + 5) (8 + j) = w.words-is ∙ (λ i. set (w.put_node.ensures i) (7 * k + 5) (8 + j)) in
           rw (is, w.place-is) (packing_taken ws c.args.fill vs k j inv c.loop-k-test.true c.requires.sound c.requires.closed (omega arith) w.if-words-k-ne0.true w.node_at-node.result w.node_at-node.ensures _ _ w.new_at-low.ensures w.new_at-high.ensures)
       | else-words-k-ne0 w ↦ rw (w.words-is, w.place-is) (packing_left ws c.args.fill vs k j inv c.loop-k-test.true w.if-words-k-ne0.false)
     ]

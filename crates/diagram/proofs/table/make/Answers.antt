@@ -1,10 +1,12 @@
-use Rattle.std.proofs.Common.{◌≡◌, ◌+◌, None, sym, refl, ◌∙◌, arith}
+use Rattle.std.proofs.Common.{◌≡◌, ◌+◌, ◌/◌, None, sym, refl, ap, ◌∙◌, subst, arith}
 use Rattle.std.proofs.lemmas.Bool.{false≢true}
 use Rattle.diagram.specs.Store.{done, found}
-use Rattle.diagram.specs.Words.{capacity, stored}
+use Rattle.diagram.specs.Words.{Chained, bucket, capacity, node_at, stored}
+use Rattle.diagram.specs.declared.node.Node.{Node}
+use Rattle.diagram.proofs.Chains.{put_chained}
 use Rattle.diagram.proofs.Kept.{kept_still, kept_new}
 use Rattle.diagram.proofs.Makes.{made_same, made_found, made_full, made_new, made_at}
-use Rattle.diagram.proofs.Words.{length-stored, found_none}
+use Rattle.diagram.proofs.Words.{length-stored, found_none, putting_here, stored_put}
 use Rattle.diagram.proofs.table.make.Goals as goal
 
 pub returns-then-node : goal.returns-then-node
@@ -27,15 +29,25 @@ returns-then-k-n c = record {
   alike = λ e. refl;
 }
 
+pub enter-requires-clause-chained : goal.enter-requires-clause-chained
+enter-requires-clause-chained c = subst (λ ws. Chained ws c.args.fill.now) (sym c.put_node.ensures) (put_chained c.args.words.now c.args.fill.now c.args.node c.requires.chained)
+
+pub enter-requires-clause-here : goal.enter-requires-clause-here
+enter-requires-clause-here c =
+    let f = c.args.fill.now in
+    let here : node_at c.put_node.new.words f ≡ c.args.node = ap (λ ws. node_at ws f) c.put_node.ensures ∙ putting_here c.args.words.now f c.args.node (omega arith) in
+    c.bucket_of-b.ensures.is ∙ (λ i. bucket (sym c.put_node.auto.words i / 7) (sym here i))
+
 pub returns : goal.returns
 returns c =
     let ws = c.args.words.now in
     let f = c.args.fill.now in
+    let n : Node = c.args.node in
     let long = length-stored ws f in
-    let new = made_new (capacity ws) (stored ws f) c.args.node c.if-node.false (sym c.in_default.ensures) (omega (arith, long)) in
-    let now = sym c.add.ensures.stored in
+    let new = made_new (capacity ws) (stored ws f) n c.if-node.false (sym c.in_default.ensures) (omega (arith, long)) in
+    let now = sym (stored_put ws c.enter.new.words f n (omega arith) (λ k. c.enter.ensures.nodes k ∙ ap (λ us. node_at us k) c.put_node.ensures)) in
     record {
       told = new ∙ (λ i. done (now i) (8 + long i));
-      kept = kept_new ws f c.add.new.words (f + 1) _ _ _ c.add.ensures.chained now (made_at (stored ws f) c.args.node c.requires.sound c.requires.fits (capacity ws) _ _ new);
+      kept = kept_new ws f c.enter.new.words (f + 1) _ _ _ c.enter.ensures.chained now (made_at (stored ws f) n c.requires.sound c.requires.fits (capacity ws) _ _ new);
       alike = λ e. absurd (false≢true e);
     }
