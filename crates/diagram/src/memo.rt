@@ -1,5 +1,5 @@
 ghost use Rattle.std.specs.Prelude.{◌≡◌, ◌+◌, ◌*◌, ◌<◌};
-ghost use Rattle.diagram.specs.Memo.{Few, entries as entries_of, is_for, noted, recalled};
+ghost use Rattle.diagram.specs.Memo.{Few, entries as entries_of, noted, operation_at, recalled};
 
 use crate::spread::spread;
 
@@ -15,41 +15,54 @@ const SECOND: usize = 2;
 
 const RESULT: usize = 3;
 
-fn is_entry(memo: &[u32], k: usize, key: u32, a: u32, b: u32) -> bool
-    requires { k < entries_of memo.now }
-    ensures { result ≡ is_for memo.now k key a b }
-{
-    memo[SIZE * k] == key && memo[SIZE * k + FIRST] == a && memo[SIZE * k + SECOND] == b
+// What the memo keeps a result of: an operation's key, and the references that it was done on.
+#[derive(Clone, Copy, Debug, PartialEq, Eq)]
+pub(crate) struct Operation {
+    pub(crate) key: u32,
+    pub(crate) a: u32,
+    pub(crate) b: u32,
 }
 
-// The kept result of combining a and b by the rule with this key.
-pub(crate) fn recall(memo: &[u32], key: u32, a: u32, b: u32) -> Option<u32>
+// The operation of entry k.
+fn operation_at(memo: &[u32], k: usize) -> Operation
+    requires { k < entries_of memo.now }
+    ensures { result ≡ operation_at memo.now k }
+{
+    Operation {
+        key: memo[SIZE * k],
+        a: memo[SIZE * k + FIRST],
+        b: memo[SIZE * k + SECOND],
+    }
+}
+
+// The kept result of an operation.
+pub(crate) fn recall(memo: &[u32], operation: Operation) -> Option<u32>
     requires { Few memo.now }
-    ensures { result ≡ recalled memo.now key a b }
+    ensures { result ≡ recalled memo.now operation }
 {
     let entries = memo.len() / SIZE;
     if entries == 0 {
         return None;
     }
-    let k = spread(entries, key, a, b);
-    if is_entry(memo, k, key, a, b) {
+    let k = spread(entries, operation.key, operation.a, operation.b);
+    if operation_at(memo, k) == operation {
         return Some(memo[SIZE * k + RESULT]);
     }
     None
 }
 
 // Keeps a result, in place of whatever stood in its entry.
-pub(crate) fn note(memo: &mut [u32], key: u32, a: u32, b: u32, res: u32)
+pub(crate) fn note(memo: &mut [u32], operation: Operation, res: u32)
     requires { Few memo.old }
-    ensures { memo.new ≡ noted memo.old key a b res }
+    ensures { memo.new ≡ noted memo.old operation res }
 {
     let entries = memo.len() / SIZE;
     if entries == 0 {
         return;
     }
-    let k = spread(entries, key, a, b);
-    memo[SIZE * k] = key;
-    memo[SIZE * k + FIRST] = a;
-    memo[SIZE * k + SECOND] = b;
+    let k = spread(entries, operation.key, operation.a, operation.b);
+    memo[SIZE * k] = operation.key;
+    memo[SIZE * k + FIRST] = operation.a;
+    memo[SIZE * k + SECOND] = operation.b;
     memo[SIZE * k + RESULT] = res;
 }

@@ -10,6 +10,7 @@ ghost use Rattle.diagram.specs.Told.{Closes};
 use super::Diagrams;
 use crate::PAIRS;
 use crate::kind::Kind;
+use crate::memo::Operation;
 use crate::node::Node;
 use crate::refusal::Refusal;
 use crate::rule::Rule;
@@ -45,8 +46,12 @@ impl Diagrams<'_> {
         if v >= PAIRS {
             return Ok(a);
         }
-        let key = CLOSING + rule.key();
-        if let Some(r) = self.recall(key, a, 0) {
+        let operation = Operation {
+            key: CLOSING + rule.key(),
+            a,
+            b: 0,
+        };
+        if let Some(r) = self.recall(operation) {
             return Ok(r);
         }
         let (low, high) = self.parts(v, a);
@@ -58,7 +63,7 @@ impl Diagrams<'_> {
             low: joined,
             high: closed_high,
         })?;
-        self.note(key, a, 0, r);
+        self.note(operation, r);
         Ok(r)
     }
 }

@@ -9,6 +9,7 @@ ghost use Rattle.diagram.specs.Told.{Gives};
 
 use super::Diagrams;
 use crate::PAIRS;
+use crate::memo::Operation;
 use crate::node::Node;
 use crate::refusal::Refusal;
 use crate::rule::Rule;
@@ -65,8 +66,12 @@ impl Diagrams<'_> {
         if v >= PAIRS {
             return Ok(rule.value(a, b));
         }
-        let key = rule.key();
-        if let Some(r) = self.recall(key, a, b) {
+        let operation = Operation {
+            key: rule.key(),
+            a,
+            b,
+        };
+        if let Some(r) = self.recall(operation) {
             return Ok(r);
         }
         let (al, ah) = self.parts(v, a);
@@ -74,7 +79,7 @@ impl Diagrams<'_> {
         let low = self.build_combined(rule, al, bl)?;
         let high = self.build_combined(rule, ah, bh)?;
         let r = self.node(Node { pair: v, low, high })?;
-        self.note(key, a, b, r);
+        self.note(operation, r);
         Ok(r)
     }
 }

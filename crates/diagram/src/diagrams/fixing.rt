@@ -8,6 +8,7 @@ ghost use Rattle.diagram.specs.Told.{Gives};
 
 use super::Diagrams;
 use crate::PAIRS;
+use crate::memo::Operation;
 use crate::node::Node;
 use crate::refusal::Refusal;
 use crate::table::TableFull;
@@ -46,8 +47,12 @@ impl Diagrams<'_> {
             return Ok(high);
         }
         // no rule has a key that 4 divides
-        let key = 4 * (pair + 1);
-        if let Some(r) = self.recall(key, a, 0) {
+        let operation = Operation {
+            key: 4 * (pair + 1),
+            a,
+            b: 0,
+        };
+        if let Some(r) = self.recall(operation) {
             return Ok(r);
         }
         let fixed_low = self.build_fixed(pair, low)?;
@@ -57,7 +62,7 @@ impl Diagrams<'_> {
             low: fixed_low,
             high: fixed_high,
         })?;
-        self.note(key, a, 0, r);
+        self.note(operation, r);
         Ok(r)
     }
 }

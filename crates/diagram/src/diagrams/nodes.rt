@@ -6,6 +6,7 @@ ghost use Rattle.diagram.specs.Memo.{Known, noted, recalled};
 ghost use Rattle.diagram.specs.Store.{Fits, made, mark, top};
 
 use super::Diagrams;
+use crate::memo::Operation;
 use crate::node::{Node, SIZE, node_at};
 use crate::refusal::Refusal;
 use crate::table::TableFull;
@@ -52,23 +53,23 @@ impl Diagrams<'_> {
         crate::table::make(self.words, &mut self.fill, node)
     }
 
-    // The result that the memo has for a key and two references: building anew would give it, with no new node.
-    pub(super) fn recall(&self, key: u32, a: u32, b: u32) -> Option<u32>
-        requires { 0 < key }
-        ensures is { result ≡ recalled self.now.memo.now key a b }
-        ensures known { IfSome result (λ r. Known (store_of self.now) key a b r) }
+    // The result that the memo has of an operation: doing it anew would give it, with no new node.
+    pub(super) fn recall(&self, operation: Operation) -> Option<u32>
+        requires { 0 < operation.key }
+        ensures is { result ≡ recalled self.now.memo.now operation }
+        ensures known { IfSome result (λ r. Known (store_of self.now) operation r) }
     {
-        crate::memo::recall(self.memo, key, a, b)
+        crate::memo::recall(self.memo, operation)
     }
 
     // Keeps a result in the memo.
-    pub(super) fn note(&mut self, key: u32, a: u32, b: u32, r: u32)
-        requires { Known (store_of self.old) key a b r }
-        ensures memo { self.new.memo.now ≡ noted self.old.memo.now key a b r }
+    pub(super) fn note(&mut self, operation: Operation, r: u32)
+        requires { Known (store_of self.old) operation r }
+        ensures memo { self.new.memo.now ≡ noted self.old.memo.now operation r }
         ensures store { store_of self.new ≡ store_of self.old }
         ensures room { room_of self.new ≡ room_of self.old }
     {
-        crate::memo::note(self.memo, key, a, b, r);
+        crate::memo::note(self.memo, operation, r);
     }
 
     // Ends a building: where the table was full on the way, takes away again what was made since `start` nodes stood.

@@ -28,7 +28,7 @@ returns-then-v-ge-PAIRS t c =
     ended (closes (value_of c.args.rule)) (close_leaf (value_of c.args.rule) (store_of c.args.self.now) c.args.a (standing c.args.self.now) c.requires (omega (arith, c.top-v.ensures)))
 
 pub returns-in-Some : goal.returns-in-Some
-returns-in-Some t c = builds_none (closed_known c.args.rule c.key-key.ensures.is c.in-Some.ensures.known (room_of c.args.self.now))
+returns-in-Some t c = builds_none (closed_known c.args.rule c.key.ensures.is c.in-Some.ensures.known (room_of c.args.self.now))
 
 goes : (t : ℕ) (c : After-parts-low t) → Goes (closes (value_of c.args.rule)) (store_of c.args.self.now) c.args.a c.top-v.result c.parts-low.result.0 c.parts-low.result.1
 goes t c =
@@ -117,7 +117,7 @@ returns-in_err-r t c =
 pub note-requires : goal.note-requires
 note-requires t c =
     let at = goal.at.note-requires t c in
-    known_closed c.args.rule c.key-key.ensures.is c.args.a c.in_ok-r.r c.requires (came (so t at.After-top-v) c.requires (then_node t at.In_ok-joined c.in_ok-r.ensures.builds))
+    known_closed c.args.rule c.key.ensures.is c.args.a c.in_ok-r.r c.requires (came (so t at.After-top-v) c.requires (then_node t at.In_ok-joined c.in_ok-r.ensures.builds))
 
 pub returns : goal.returns
 returns t c = builds_same (then_node t (goal.at.returns t c).In_ok-joined c.in_ok-r.ensures.builds) c.note.ensures.store c.note.ensures.room

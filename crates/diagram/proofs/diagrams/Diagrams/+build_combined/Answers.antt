@@ -28,7 +28,7 @@ returns-then-v-ge-PAIRS t c =
     rw c.value.ensures (ended (combines (value_of c.args.rule)) end)
 
 pub returns-in-Some : goal.returns-in-Some
-returns-in-Some t c = builds_none (combined_known c.args.rule c.key-key.ensures.is c.key-key.ensures.below c.in-Some.ensures.known (room_of c.args.self.now))
+returns-in-Some t c = builds_none (combined_known c.args.rule c.key.ensures.is c.key.ensures.below c.in-Some.ensures.known (room_of c.args.self.now))
 
 goes : (t : ℕ) (c : After-parts-bl t) → Goes (combines (value_of c.args.rule)) (store_of c.args.self.now) (c.args.a, c.args.b) c.min-v.result (c.parts-al.result.0, c.parts-bl.result.0) (c.parts-al.result.1, c.parts-bl.result.1)
 goes t c =
@@ -89,7 +89,7 @@ unfolding combined
 note-requires t c =
     let at = goal.at.note-requires t c in
     let ran = came (so t at.After-min-v) (c.requires.left, c.requires.right) (built t at.In_ok-r) in
-    known_combined c.args.rule c.key-key.ensures.is c.args.a c.args.b c.in_ok-r.r c.key-key.ensures.below c.requires.left c.requires.right ran
+    known_combined c.args.rule c.key.ensures.is c.args.a c.args.b c.in_ok-r.r c.key.ensures.below c.requires.left c.requires.right ran
 
 pub returns : goal.returns
 returns t c = builds_same (built t (goal.at.returns t c).In_ok-r) c.note.ensures.store c.note.ensures.room

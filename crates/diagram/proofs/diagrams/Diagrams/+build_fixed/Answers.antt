@@ -1,4 +1,4 @@
-use Rattle.std.proofs.Common.{◌≡◌, ℕ, ◌-◌, Ok, sym, ◌∙◌, arith}
+use Rattle.std.proofs.Common.{◌≡◌, ℕ, ◌-◌, Ok, sym, ◌∙◌, subst, arith}
 use Rattle.std.proofs.lemmas.Result.{err_from_is_err_and}
 use Rattle.diagram.specs.Building.{Builds}
 use Rattle.diagram.specs.Fixing.{fixed}
@@ -24,8 +24,8 @@ unfolding fixed
 returns-then-v-pair-2 t c =
     let j = c.args.pair in
     let s = store_of c.args.self.now in
-    let hi : c.parts-low.result.1 ≡ high_part s c.args.a = c.parts-low.ensures.high ∙ sym (high_is s _ _ c.top-v.ensures) in
-    rw hi (ended (fixes j) (fix_pair j c.requires.small s c.args.a (standing c.args.self.now) c.requires.stands (sym c.top-v.ensures ∙ c.if-v-pair-2.true)))
+    let hi : high_part s c.args.a ≡ c.parts-low.result.1 = high_is s _ _ c.top-v.ensures ∙ sym c.parts-low.ensures.high in
+    subst (λ r. Builds (fixed (room_of c.args.self.now) s j c.args.a) c.args.self.now c.args.self.now (Ok r)) hi (ended (fixes j) (fix_pair j c.requires.small s c.args.a (standing c.args.self.now) c.requires.stands (sym c.top-v.ensures ∙ c.if-v-pair-2.true)))
 
 pub returns-in-Some : goal.returns-in-Some
 returns-in-Some t c = builds_none (fixed_known c.requires.small c.in-Some.ensures.known (room_of c.args.self.now))

@@ -8,4 +8,4 @@ use Rattle.diagram.proofs.diagrams.Diagrams.note.Goals as goal
 pub invariant_of-self-clause-knows : goal.invariant_of-self-clause-knows
 invariant_of-self-clause-knows c =
     let was = c.args.self.now in
-    ∣ subst (Remembers (store_of was)) (sym c.note.ensures) (noted_known (store_of was) was.memo.now c.args.key c.args.a c.args.b c.args.r (remembered was) c.requires) ∣₁
+    ∣ subst (Remembers (store_of was)) (sym c.note.ensures) (noted_known (store_of was) was.memo.now c.args.operation c.args.r (remembered was) c.requires) ∣₁
