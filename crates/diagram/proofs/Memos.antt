@@ -211,20 +211,23 @@ module _ (memo : List ℕ) (o : Operation) where
   unfolding noted
   noted_nowhere r e = sym (cond-true _ _ _ (eq-eqb _ _ e))
 
-  module _ (some : entries memo ≡ 0 → ⊥) (k : ℕ) (is : k ≡ slot memo o) where
+  module _ (k : ℕ) (at : (k ≡ slot memo o) × (k < entries memo)) where
+    some : entries memo ≡ 0 → ⊥
+    some none = omega (arith, at.1)
+
     pub recalled_here : alike (operation_at memo k) o ≡ true → Some (result_at memo k) ≡ recalled memo o
     unfolding recalled
     recalled_here e =
-        ap (λ i. Some (result_at memo i)) is
-        ∙ sym (cond-true _ _ _ (ap (λ i. alike (operation_at memo i) o) (sym is) ∙ e))
+        ap (λ i. Some (result_at memo i)) at.0
+        ∙ sym (cond-true _ _ _ (ap (λ i. alike (operation_at memo i) o) (sym at.0) ∙ e))
         ∙ sym (cond-false (eqb (entries memo) 0) _ _ (ne_eqb _ _ some))
 
     pub recalled_other : alike (operation_at memo k) o ≡ false → None ≡ recalled memo o
     unfolding recalled
     recalled_other e =
-        sym (cond-false _ _ _ (ap (λ i. alike (operation_at memo i) o) (sym is) ∙ e))
+        sym (cond-false _ _ _ (ap (λ i. alike (operation_at memo i) o) (sym at.0) ∙ e))
         ∙ sym (cond-false (eqb (entries memo) 0) _ _ (ne_eqb _ _ some))
 
     pub noted_here : (r : ℕ) → written memo k o r ≡ noted memo o r
     unfolding noted
-    noted_here r = ap (λ i. written memo i o r) is ∙ sym (cond-false (eqb (entries memo) 0) _ _ (ne_eqb _ _ some))
+    noted_here r = ap (λ i. written memo i o r) at.0 ∙ sym (cond-false (eqb (entries memo) 0) _ _ (ne_eqb _ _ some))

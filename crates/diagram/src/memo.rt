@@ -1,5 +1,5 @@
-ghost use Rattle.std.specs.Prelude.{◌≡◌, ◌+◌, ◌*◌, ◌<◌};
-ghost use Rattle.diagram.specs.Memo.{Few, entries as entries_of, noted, operation_at, recalled};
+ghost use Rattle.std.specs.Prelude.{◌≡◌, ◌+◌, ◌*◌, ◌<◌, MatchOption};
+ghost use Rattle.diagram.specs.Memo.{Few, entries as entries_of, noted, operation_at, recalled, slot};
 
 use crate::spread::spread;
 
@@ -35,16 +35,24 @@ fn operation_at(memo: &[u32], k: usize) -> Operation
     }
 }
 
-// The kept result of an operation.
-pub(crate) fn recall(memo: &[u32], operation: Operation) -> Option<u32>
+// The one entry where the result of an operation may be, if there is room for any.
+fn slot_of(memo: &[u32], operation: Operation) -> Option<usize>
     requires { Few memo.now }
-    ensures { result ≡ recalled memo.now operation }
+    ensures { MatchOption result (entries_of memo.now ≡ 0) (λ k. (k ≡ slot memo.now operation) × (k < entries_of memo.now)) }
 {
     let entries = memo.len() / SIZE;
     if entries == 0 {
         return None;
     }
-    let k = spread(entries, operation.key, operation.a, operation.b);
+    Some(spread(entries, operation.key, operation.a, operation.b))
+}
+
+// The kept result of an operation.
+pub(crate) fn recall(memo: &[u32], operation: Operation) -> Option<u32>
+    requires { Few memo.now }
+    ensures { result ≡ recalled memo.now operation }
+{
+    let k = slot_of(memo, operation)?;
     if operation_at(memo, k) == operation {
         return Some(memo[SIZE * k + RESULT]);
     }
@@ -56,11 +64,9 @@ pub(crate) fn note(memo: &mut [u32], operation: Operation, res: u32)
     requires { Few memo.old }
     ensures { memo.new ≡ noted memo.old operation res }
 {
-    let entries = memo.len() / SIZE;
-    if entries == 0 {
+    let Some(k) = slot_of(memo, operation) else {
         return;
-    }
-    let k = spread(entries, operation.key, operation.a, operation.b);
+    };
     memo[SIZE * k] = operation.key;
     memo[SIZE * k + FIRST] = operation.a;
     memo[SIZE * k + SECOND] = operation.b;

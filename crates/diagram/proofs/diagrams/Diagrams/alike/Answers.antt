@@ -1,13 +1,10 @@
-use Rattle.std.proofs.Common.{sym, refl}
+use Rattle.std.proofs.Common.{sym}
 use Rattle.std.proofs.lemmas.Bool.{eqb-true, eq-eqb}
 use Rattle.diagram.specs.Held.{store_of}
 use Rattle.diagram.proofs.Calling.{known_parts}
 use Rattle.diagram.proofs.Canonical.{canonicity}
 use Rattle.diagram.proofs.Once.{sound_of}
 use Rattle.diagram.proofs.diagrams.Diagrams.alike.Goals as goal
-
-pub returns-then-not-both_stand : goal.returns-then-not-both_stand
-returns-then-not-both_stand c = (refl, sym c.if-not-both_stand.ensures)
 
 pub returns : goal.returns
 returns c =

@@ -13,11 +13,6 @@ use Rattle.diagram.proofs.diagrams.Diagrams.combine.Goals as goal
 pub returns-then-not-both_stand-clause-grown : goal.returns-then-not-both_stand-clause-grown
 returns-then-not-both_stand-clause-grown c = still
 
-pub build_combined-built-requires : goal.build_combined-built-requires
-build_combined-built-requires c =
-    let known = known_parts (store_of c.args.self.now) c.args.a c.args.b (sym c.if-not-both_stand.ensures) in
-    record { left = known.0; right = known.1 }
-
 pub returns-clause-is : goal.returns-clause-is
 returns-clause-is c = settled _ (sym c.if-not-both_stand.ensures) refl c.build_combined-built.result c.settle.result c.build_combined-built.ensures c.settle.ensures
 
