@@ -1,8 +1,7 @@
 use Rattle.std.proofs.Common.{refl}
 use Rattle.diagram.specs.Spread.{hash, spread}
-use Rattle.diagram.proofs.Spreads.{spread_below}
 use Rattle.diagram.proofs.spread.spread.Goals as goal
 
-pub returns : goal.returns
+pub returns-clause-is : goal.returns-clause-is
 unfolding spread hash
-returns c = record { is = refl; below = spread_below c.args.many c.args.x c.args.y c.args.z c.requires.some }
+returns-clause-is c = refl

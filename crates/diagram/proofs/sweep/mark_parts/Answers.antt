@@ -43,10 +43,7 @@ loop-k-preserved c =
     let up : c.loop-k.k ≡ k + 1 = omega arith in
     parted_pass c.args.words.now c.args.fill c.loop-k.words k (omega arith) (subst (Parted c.args.words.now c.args.fill c.loop-k.words) up c.loop-k.invariant) (marked_not c.loop-k.words k c.if-words-k-ne0.false)
 
-pub returns : goal.returns
-returns c =
+pub returns-clause-is : goal.returns-clause-is
+returns-clause-is c =
     let none : c.loop-k.k ≡ 0 = omega arith in
-    record {
-      only = c.loop-k.invariant.only;
-      is = parted_none c.args.words.now c.args.fill c.loop-k.words (subst (Parted c.args.words.now c.args.fill c.loop-k.words) none c.loop-k.invariant);
-    }
+    parted_none c.args.words.now c.args.fill c.loop-k.words (subst (Parted c.args.words.now c.args.fill c.loop-k.words) none c.loop-k.invariant)

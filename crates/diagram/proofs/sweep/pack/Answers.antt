@@ -3,7 +3,7 @@ use Rattle.diagram.specs.declared.node.Node.{Node}
 use Rattle.diagram.specs.Store.{node_of}
 use Rattle.diagram.specs.Words.{putting}
 use Rattle.diagram.proofs.Counts.{older_parts}
-use Rattle.diagram.proofs.Marks.{Packing, packing_none, packing_left, packing_taken}
+use Rattle.diagram.proofs.Marks.{packing_none, packing_left, packing_taken}
 use Rattle.diagram.proofs.sweep.pack.Goals as goal
 use Rattle.diagram.proofs.sweep.pack.Goals.{After-node_at-node, then-words-k-ne0, else-words-k-ne0}
 
@@ -23,18 +23,6 @@ new_at-low-requires c = omega (arith, (older (goal.at.new_at-low-requires c).Aft
 pub new_at-high-requires : goal.new_at-high-requires
 new_at-high-requires c = omega (arith, (older (goal.at.new_at-high-requires c).After-node_at-node).1)
 
-pub put_node-requires : goal.put_node-requires
-put_node-requires c = omega (arith, c.loop-k.invariant.fewer)
-
-pub overflow_cast-words : goal.overflow_cast-words
-overflow_cast-words c = omega (arith, c.loop-k.invariant.fewer)
-
-pub overflow_add-words : goal.overflow_add-words
-overflow_add-words c = omega (arith, c.loop-k.invariant.fewer)
-
-pub overflow_add-place : goal.overflow_add-place
-overflow_add-place c = omega (arith, c.loop-k.invariant.fewer)
-
 pub loop-k-preserved : goal.loop-k-preserved
 loop-k-preserved c =
     let ws = c.args.words.now in
@@ -49,10 +37,3 @@ loop-k-preserved c =
           rw (is, w.place-is) (packing_taken ws c.args.fill vs k j inv c.loop-k-test.true c.requires.sound c.requires.closed (omega arith) w.if-words-k-ne0.true w.node_at-node.result w.node_at-node.ensures _ _ w.new_at-low.ensures w.new_at-high.ensures)
       | else-words-k-ne0 w ↦ rw (w.words-is, w.place-is) (packing_left ws c.args.fill vs k j inv c.loop-k-test.true w.if-words-k-ne0.false)
     ]
-
-pub returns : goal.returns
-returns c =
-    let ws = c.args.words.now in
-    let end : c.loop-k.k ≡ c.args.fill = omega arith in
-    let inv : Packing ws c.loop-k.words c.args.fill c.loop-k.place = subst (λ k. Packing ws c.loop-k.words k c.loop-k.place) end c.loop-k.invariant in
-    record { fewer = inv.fewer; store = inv.store; news = inv.news; heads = inv.heads }

@@ -14,8 +14,8 @@ loop-k-preserved c =
     let is : c.bucket_of-b.result ≡ bucket_at ws k = c.bucket_of-b.ensures.is ∙ ap (bucket (capacity ws)) (c.node_at.ensures ∙ c.loop-k.invariant.nodes k) in
     wiped_more ws c.loop-k.words k c.bucket_of-b.result (omega (arith, c.requires.within)) (omega (arith, c.bucket_of-b.ensures.below)) is c.loop-k.invariant
 
-pub returns : goal.returns
-returns c =
+pub returns-clause-chained : goal.returns-clause-chained
+returns-clause-chained c =
     let end : c.loop-k.k ≡ c.args.fill = omega arith in
     let w : Wiped c.args.words.now c.loop-k.words c.args.fill = subst (Wiped c.args.words.now c.loop-k.words) end c.loop-k.invariant in
-    record { chained = wiped_chained _ _ _ c.requires c.loop-k.auto.words w; unmarked = w.marks; nodes = w.nodes }
+    wiped_chained _ _ _ c.requires c.loop-k.auto.words w

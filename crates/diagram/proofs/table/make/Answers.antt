@@ -1,12 +1,12 @@
-use Rattle.std.proofs.Common.{◌≡◌, ◌+◌, ◌/◌, None, sym, refl, ap, ◌∙◌, subst, arith}
+use Rattle.std.proofs.Common.{◌≡◌, ◌+◌, None, sym, refl, ap, ◌∙◌, subst, arith}
 use Rattle.std.proofs.lemmas.Bool.{false≢true}
 use Rattle.diagram.specs.Store.{done, found}
-use Rattle.diagram.specs.Words.{Chained, bucket, capacity, node_at, stored}
+use Rattle.diagram.specs.Words.{Chained, capacity, node_at, stored}
 use Rattle.diagram.specs.declared.node.Node.{Node}
 use Rattle.diagram.proofs.Chains.{put_chained}
 use Rattle.diagram.proofs.Kept.{kept_still, kept_new}
 use Rattle.diagram.proofs.Makes.{made_same, made_found, made_full, made_new, made_at}
-use Rattle.diagram.proofs.Words.{length-stored, found_none, putting_here, stored_put}
+use Rattle.diagram.proofs.Words.{length-stored, found_none, stored_put}
 use Rattle.diagram.proofs.table.make.Goals as goal
 
 pub returns-then-node : goal.returns-then-node
@@ -31,12 +31,6 @@ returns-then-k-n c = record {
 
 pub enter-requires-clause-chained : goal.enter-requires-clause-chained
 enter-requires-clause-chained c = subst (λ ws. Chained ws c.args.fill.now) (sym c.put_node.ensures) (put_chained c.args.words.now c.args.fill.now c.args.node c.requires.chained)
-
-pub enter-requires-clause-here : goal.enter-requires-clause-here
-enter-requires-clause-here c =
-    let f = c.args.fill.now in
-    let here : node_at c.put_node.new.words f ≡ c.args.node = ap (λ ws. node_at ws f) c.put_node.ensures ∙ putting_here c.args.words.now f c.args.node (omega arith) in
-    c.bucket_of-b.ensures.is ∙ (λ i. bucket (sym c.put_node.auto.words i / 7) (sym here i))
 
 pub returns : goal.returns
 returns c =

@@ -7,8 +7,8 @@ use Rattle.diagram.proofs.view.View.value.Goals as goal
 pub returns-then-a-self : goal.returns-then-a-self
 returns-then-a-self c = (refl, le-ltb _ _ (omega (arith, length-stored c.args.self.now.words.now c.args.self.now.fill)))
 
-pub leaf_of-requires : goal.leaf_of-requires
-leaf_of-requires c = record { room = c.args.self.now.within; sound = sound_of _ c.args.self.now.sound; stands = omega arith }
+pub leaf_of-requires-clause-sound : goal.leaf_of-requires-clause-sound
+leaf_of-requires-clause-sound c = sound_of _ c.args.self.now.sound
 
 pub returns : goal.returns
 returns c = (lt-ltb _ _ (omega (arith, length-stored c.args.self.now.words.now c.args.self.now.fill)), c.leaf_of.ensures)
