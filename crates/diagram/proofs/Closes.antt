@@ -5,7 +5,8 @@ use Rattle.std.proofs.lemmas.Bool.{cond-true, cond-false, lt-ltb, le-ltb, cases_
 use Rattle.diagram.specs.Closing.{closing, Coded, Bound}
 use Rattle.diagram.specs.Combining.{combined}
 use Rattle.diagram.specs.Kinds.{Joins}
-use Rattle.diagram.specs.Rules.{Leaves}
+use Rattle.diagram.specs.declared.rule.Rule.{Rule}
+use Rattle.diagram.specs.Rules.{value_of, Leaves}
 use Rattle.diagram.specs.Store.{Store, Query, put, mark, node_of, top, low_part, high_part, eval, Outcome, done, bind, made, Later, Sound}
 use Rattle.diagram.proofs.Bounds.{bound_constant, bound_node, coded_side}
 use Rattle.diagram.proofs.Builds.{Holds, holds_by, holds_then, Built}
@@ -13,6 +14,7 @@ use Rattle.diagram.proofs.Canonical.{part_at}
 use Rattle.diagram.proofs.Combines.{combines, combines_so}
 use Rattle.diagram.proofs.Descents.{Descent, Descends, Ends, Goes, Way, ends, goes, holds}
 use Rattle.diagram.proofs.Makes.{Made, node_after}
+use Rattle.diagram.proofs.Rulings.{value_leaves}
 use Rattle.diagram.proofs.Stands.{grown_length, top_grown, low_grown, high_grown, eval_grown, eval_leaf, is_leaf, later_grown, pick, parts, parts_of}
 
 -- the join of the closed parts, and their node
@@ -113,3 +115,6 @@ closes_so join leaves = record {
   way = close_way join;
   after_holds = joined_holds join leaves;
 }
+
+pub closes_rule : (rule : Rule) → Descends (closes (value_of rule))
+closes_rule rule = closes_so (value_of rule) (value_leaves rule)

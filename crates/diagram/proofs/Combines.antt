@@ -2,10 +2,12 @@
 use Rattle.std.proofs.Common.{◌≡◌, ℕ, zero, suc, ◌<◌, ◌≤◌, Bool, true, false, cond, eqb, ltb, sym, refl, ap, ◌∙◌, subst, ap₂, ⊎_elim, arith}
 use Rattle.std.proofs.lemmas.Bool.{eqb-true, eqb-false, cond-true, cond-false, lt-ltb, le-ltb, cases_Bool, cases_lt}
 use Rattle.diagram.specs.Combining.{low_at, high_at, first, combining}
-use Rattle.diagram.specs.Rules.{Leaves}
+use Rattle.diagram.specs.declared.rule.Rule.{Rule}
+use Rattle.diagram.specs.Rules.{value_of, Leaves}
 use Rattle.diagram.specs.Store.{Store, Query, mark, node_of, top, low_part, high_part, eval, Outcome, done, bind, made, Later, Sound, Grown}
 use Rattle.diagram.proofs.Descents.{Descent, Descends, Ends, Goes, Way, ends, goes}
 use Rattle.diagram.proofs.Makes.{either, node_after}
+use Rattle.diagram.proofs.Rulings.{value_leaves}
 use Rattle.diagram.proofs.Stands.{grown_length, top_grown, low_grown, high_grown, eval_grown, top_leaf, eval_leaf, top_small, is_leaf, parts}
 
 -- the parts of a at v
@@ -137,3 +139,7 @@ combines_so rule leaves = record {
   way = λ s x so h. combine_way rule leaves s x.0 x.1 so h.0 h.1;
   after_holds = node_after;
 }
+
+-- a rule takes leaves to leaves
+pub combines_rule : (rule : Rule) → Descends (combines (value_of rule))
+combines_rule rule = combines_so (value_of rule) (value_leaves rule)

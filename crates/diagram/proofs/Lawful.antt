@@ -10,16 +10,15 @@ use Rattle.diagram.specs.Laws.{Laws, LeastUpperBound, DecisionStillPossible, Tru
 use Rattle.diagram.specs.Rules.{value_of}
 use Rattle.diagram.specs.Store.{Store, Query, mark, eval, done, Sound}
 use Rattle.diagram.proofs.Canonical.{extension, dependence, canonicity, eval_code}
-use Rattle.diagram.proofs.Closes.{closes, closes_so}
-use Rattle.diagram.proofs.Combines.{combines, combines_so}
+use Rattle.diagram.proofs.Closes.{closes, closes_rule}
+use Rattle.diagram.proofs.Combines.{combines, combines_rule}
 use Rattle.diagram.proofs.Descents.{Ran, ran_at}
 use Rattle.diagram.proofs.Fixes.{fixes, fixes_so}
 use Rattle.diagram.specs.Joining.{either_joins, union_joins}
 use Rattle.diagram.proofs.Possible.{truth_possible, decision_possible}
-use Rattle.diagram.proofs.Rulings.{value_leaves}
 
 closing : (rule : Rule) (room : ℕ) (s : Store) (a : ℕ) → Sound s → a < mark s → (t : Store) (r : ℕ) → closed room s (value_of rule) a ≡ done t r → Ran (closes (value_of rule)) 48 s a t r
-closing rule room s a so h t r e = ran_at (closes (value_of rule)) (closes_so _ (value_leaves rule)) room s a so h t r e
+closing rule room s a so h t r e = ran_at (closes (value_of rule)) (closes_rule rule) room s a so h t r e
 
 least_upper_bound : LeastUpperBound
 least_upper_bound rule codes joins room s a so h coded t r e = (closing rule room s a so h t r e).means codes joins coded
@@ -42,7 +41,7 @@ laws = record {
   extension = extension;
   dependence = dependence;
   canonicity = canonicity;
-  stability = λ rule room s a b so ha hb t r e. (ran_at (combines (value_of rule)) (combines_so _ (value_leaves rule)) room s (a, b) so (ha, hb) t r e).stable;
+  stability = λ rule room s a b so ha hb t r e. (ran_at (combines (value_of rule)) (combines_rule rule) room s (a, b) so (ha, hb) t r e).stable;
   fixed_again = λ j room s a small so h t r e. (ran_at (fixes j) (fixes_so j small) room s a so h t r e).stable;
   closed_again = λ rule room s a so h t r e. (closing rule room s a so h t r e).stable;
   least_upper_bound = least_upper_bound;

@@ -4,8 +4,8 @@ use Rattle.diagram.specs.Building.{Builds}
 use Rattle.diagram.specs.Combining.{first, combined}
 use Rattle.diagram.specs.Held.{store_of, room_of}
 use Rattle.diagram.specs.Rules.{value_of}
-use Rattle.diagram.proofs.Combines.{combines, combines_so, combine_leaves, combine_node}
-use Rattle.diagram.proofs.Descents.{Descends, Goes}
+use Rattle.diagram.proofs.Combines.{combines, combines_rule, combine_leaves, combine_node}
+use Rattle.diagram.proofs.Descents.{Goes}
 use Rattle.diagram.proofs.Memos.{known_combined, combined_known}
 use Rattle.diagram.proofs.Rulings.{value_leaves}
 use Rattle.diagram.proofs.Standing.{standing}
@@ -16,9 +16,6 @@ use Rattle.diagram.proofs.diagrams.Diagrams.+build_combined.Goals.{After-min-v, 
 -- the pair v is the first that a and b test
 first_is : (t : ℕ) (c : After-min-v t) → first (store_of c.args.self.now) c.args.a c.args.b ≡ c.min-v.result
 first_is t c = omega (arith, c.min-v.ensures, c.top.ensures, c.top-2.ensures)
-
-so : (t : ℕ) (c : After-min-v t) → Descends (combines (value_of c.args.rule))
-so t c = combines_so _ (value_leaves c.args.rule)
 
 pub returns-then-v-ge-PAIRS : goal.returns-then-v-ge-PAIRS
 unfolding combined
@@ -45,8 +42,7 @@ pub returns-in_err-low : goal.returns-in_err-low
 unfolding combined
 returns-in_err-low t c =
     let at = goal.at.returns-in_err-low t c in
-    let p = err_from_is_err_and c.from_residual.result c.from_residual.ensures.1 in
-    rw p.1 (low_full (so t at.After-min-v) (goes t at.After-parts-bl) c.in_err-low.ensures)
+    rw (err_from_is_err_and c.from_residual.result c.from_residual.ensures.1).1 (low_full (combines_rule c.args.rule) (goes t at.After-parts-bl) c.in_err-low.ensures)
 
 pub build_combined-requires-2 : goal.build_combined-requires-2
 unfolding combined
@@ -54,41 +50,39 @@ build_combined-requires-2 t c =
     let at = goal.at.build_combined-requires-2 t c in
     let go = goes t at.After-parts-bl in
     let m : 48 - first (store_of c.args.self.now) c.args.a c.args.b ≡ t = c.decreases in
-    let later = high_later (so t at.After-min-v) go c.in_ok-low.ensures in
-    (omega (arith, go.at, go.small), high_stands (so t at.After-min-v) go c.in_ok-low.ensures)
+    let later = high_later (combines_rule c.args.rule) go c.in_ok-low.ensures in
+    (omega (arith, go.at, go.small), high_stands (combines_rule c.args.rule) go c.in_ok-low.ensures)
 
 pub returns-in_err-high : goal.returns-in_err-high
 unfolding combined
 returns-in_err-high t c =
     let at = goal.at.returns-in_err-high t c in
-    let p = err_from_is_err_and c.from_residual-in_err-high.result c.from_residual-in_err-high.ensures.1 in
-    rw p.1 (high_full (so t at.After-min-v) (goes t at.After-parts-bl) c.in_ok-low.ensures c.in_err-high.ensures)
+    rw (err_from_is_err_and c.from_residual-in_err-high.result c.from_residual-in_err-high.ensures.1).1 (high_full (combines_rule c.args.rule) (goes t at.After-parts-bl) c.in_ok-low.ensures c.in_err-high.ensures)
 
 pub node-requires : goal.node-requires
 unfolding combined
 node-requires t c =
     let at = goal.at.node-requires t c in
-    node_fits (so t at.After-min-v) (goes t at.After-parts-bl) c.in_ok-low.ensures c.in_ok-high.ensures
+    node_fits (combines_rule c.args.rule) (goes t at.After-parts-bl) c.in_ok-low.ensures c.in_ok-high.ensures
 
 pub returns-in_err-r : goal.returns-in_err-r
 unfolding combined
 returns-in_err-r t c =
     let at = goal.at.returns-in_err-r t c in
-    let p = err_from_is_err_and c.from_residual-in_err-r.result c.from_residual-in_err-r.ensures.1 in
-    rw p.1 (then_after (so t at.After-min-v) (goes t at.After-parts-bl) c.in_ok-low.ensures c.in_ok-high.ensures c.in_err-r.ensures.builds)
+    rw (err_from_is_err_and c.from_residual-in_err-r.result c.from_residual-in_err-r.ensures.1).1 (then_after (combines_rule c.args.rule) (goes t at.After-parts-bl) c.in_ok-low.ensures c.in_ok-high.ensures c.in_err-r.ensures.builds)
 
 -- the three calls are done
 built : (t : ℕ) (c : In_ok-r t) → Builds (combined (room_of c.args.self.now) (store_of c.args.self.now) (value_of c.args.rule) c.args.a c.args.b) c.args.self.now c.node.new.self (Ok c.in_ok-r.r)
 unfolding combined
 built t c =
     let at = goal.at.In_ok-r t c in
-    then_after (so t at.After-min-v) (goes t at.After-parts-bl) c.in_ok-low.ensures c.in_ok-high.ensures c.in_ok-r.ensures.builds
+    then_after (combines_rule c.args.rule) (goes t at.After-parts-bl) c.in_ok-low.ensures c.in_ok-high.ensures c.in_ok-r.ensures.builds
 
 pub note-requires : goal.note-requires
 unfolding combined
 note-requires t c =
     let at = goal.at.note-requires t c in
-    let ran = came (so t at.After-min-v) (c.requires.left, c.requires.right) (built t at.In_ok-r) in
+    let ran = came (combines_rule c.args.rule) (c.requires.left, c.requires.right) (built t at.In_ok-r) in
     known_combined c.args.rule c.key.ensures.is c.args.a c.args.b c.in_ok-r.r c.key.ensures.below c.requires.left c.requires.right ran
 
 pub returns : goal.returns

@@ -47,8 +47,7 @@ build_fixed-requires t c =
 pub returns-in_err-fixed_low : goal.returns-in_err-fixed_low
 unfolding fixed
 returns-in_err-fixed_low t c =
-    let p = err_from_is_err_and c.from_residual.result c.from_residual.ensures.1 in
-    rw p.1 (low_full (fixes_so _ c.requires.small) (goes t (goal.at.returns-in_err-fixed_low t c).In_default) c.in_err-fixed_low.ensures)
+    rw (err_from_is_err_and c.from_residual.result c.from_residual.ensures.1).1 (low_full (fixes_so _ c.requires.small) (goes t (goal.at.returns-in_err-fixed_low t c).In_default) c.in_err-fixed_low.ensures)
 
 pub build_fixed-requires-2 : goal.build_fixed-requires-2
 unfolding fixed
@@ -61,8 +60,7 @@ build_fixed-requires-2 t c =
 pub returns-in_err-fixed_high : goal.returns-in_err-fixed_high
 unfolding fixed
 returns-in_err-fixed_high t c =
-    let p = err_from_is_err_and c.from_residual-in_err-fixed_high.result c.from_residual-in_err-fixed_high.ensures.1 in
-    rw p.1 (high_full (fixes_so _ c.requires.small) (goes t (goal.at.returns-in_err-fixed_high t c).In_default) c.in_ok-fixed_low.ensures c.in_err-fixed_high.ensures)
+    rw (err_from_is_err_and c.from_residual-in_err-fixed_high.result c.from_residual-in_err-fixed_high.ensures.1).1 (high_full (fixes_so _ c.requires.small) (goes t (goal.at.returns-in_err-fixed_high t c).In_default) c.in_ok-fixed_low.ensures c.in_err-fixed_high.ensures)
 
 pub node-requires : goal.node-requires
 unfolding fixed
@@ -71,8 +69,7 @@ node-requires t c = node_fits (fixes_so _ c.requires.small) (goes t (goal.at.nod
 pub returns-in_err-r : goal.returns-in_err-r
 unfolding fixed
 returns-in_err-r t c =
-    let p = err_from_is_err_and c.from_residual-in_err-r.result c.from_residual-in_err-r.ensures.1 in
-    rw p.1 (then_after (fixes_so _ c.requires.small) (goes t (goal.at.returns-in_err-r t c).In_default) c.in_ok-fixed_low.ensures c.in_ok-fixed_high.ensures c.in_err-r.ensures.builds)
+    rw (err_from_is_err_and c.from_residual-in_err-r.result c.from_residual-in_err-r.ensures.1).1 (then_after (fixes_so _ c.requires.small) (goes t (goal.at.returns-in_err-r t c).In_default) c.in_ok-fixed_low.ensures c.in_ok-fixed_high.ensures c.in_err-r.ensures.builds)
 
 -- the three calls are done
 built : (t : ℕ) (c : In_ok-r t) → Builds (fixed (room_of c.args.self.now) (store_of c.args.self.now) c.args.pair c.args.a) c.args.self.now c.node.new.self (Ok c.in_ok-r.r)

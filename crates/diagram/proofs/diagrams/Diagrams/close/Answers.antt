@@ -5,8 +5,7 @@ use Rattle.diagram.specs.Closing.{closed}
 use Rattle.diagram.specs.Held.{store_of, room_of}
 use Rattle.diagram.specs.Store.{eval, still}
 use Rattle.diagram.specs.Told.{Closes}
-use Rattle.diagram.proofs.Closes.{Bounds, closes_so}
-use Rattle.diagram.proofs.Rulings.{value_leaves}
+use Rattle.diagram.proofs.Closes.{Bounds, closes_rule}
 use Rattle.diagram.proofs.Settles.{settled, settled_grown, settled_holds}
 use Rattle.diagram.proofs.diagrams.Diagrams.close.Goals as goal
 
@@ -25,7 +24,7 @@ returns-clause-grown g c = settled_grown _ c.build_closed-built.result c.settle.
 pub returns-clause-means : goal.returns-clause-means
 returns-clause-means g c =
     let s = store_of c.args.self.now in
-    settled_holds (closes_so _ (value_leaves c.rule.result)) c.settle.new.self (ltb-true _ _ (sym c.if-not-stands.ensures))
+    settled_holds (closes_rule c.rule.result) c.settle.new.self (ltb-true _ _ (sym c.if-not-stands.ensures))
     (Closes g.K.Kind.codes g.K.Kind.join s c.args.a (store_of c.settle.new.self))
     (λ x ran. (ran.below, subst (λ j. Bounds j s c.args.a (eval (store_of c.settle.new.self) x)) c.rule.ensures ran.means g.K.Kind.codes g.met.K.Kind.laws))
     tt c.build_closed-built.result c.settle.result c.build_closed-built.ensures c.settle.ensures

@@ -5,8 +5,7 @@ use Rattle.diagram.specs.Rules.{value_of}
 use Rattle.diagram.specs.Store.{eval, still}
 use Rattle.diagram.specs.Told.{Gives}
 use Rattle.diagram.proofs.Calling.{known_parts}
-use Rattle.diagram.proofs.Combines.{combines_so}
-use Rattle.diagram.proofs.Rulings.{value_leaves}
+use Rattle.diagram.proofs.Combines.{combines_rule}
 use Rattle.diagram.proofs.Settles.{settled, settled_grown, settled_holds}
 use Rattle.diagram.proofs.diagrams.Diagrams.combine.Goals as goal
 
@@ -23,6 +22,6 @@ pub returns-clause-means : goal.returns-clause-means
 unfolding combined
 returns-clause-means c =
     let s = store_of c.args.self.now in
-    settled_holds (combines_so _ (value_leaves c.args.rule)) c.settle.new.self (known_parts s c.args.a c.args.b (sym c.if-not-both_stand.ensures))
+    settled_holds (combines_rule c.args.rule) c.settle.new.self (known_parts s c.args.a c.args.b (sym c.if-not-both_stand.ensures))
     (Gives (store_of c.settle.new.self) (λ q. value_of c.args.rule (eval s c.args.a q) (eval s c.args.b q)))
     (λ x ran. (ran.below, ran.means)) tt c.build_combined-built.result c.settle.result c.build_combined-built.ensures c.settle.ensures

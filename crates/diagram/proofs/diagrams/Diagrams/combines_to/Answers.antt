@@ -3,8 +3,7 @@ use Rattle.std.proofs.lemmas.Bool.{ltb-true}
 use Rattle.diagram.specs.Combining.{combined}
 use Rattle.diagram.specs.Held.{store_of}
 use Rattle.diagram.proofs.Calling.{known_parts, compared}
-use Rattle.diagram.proofs.Combines.{combines_so}
-use Rattle.diagram.proofs.Rulings.{value_leaves}
+use Rattle.diagram.proofs.Combines.{combines_rule}
 use Rattle.diagram.proofs.Settles.{rolled_back}
 use Rattle.diagram.proofs.Steps.{came}
 use Rattle.diagram.proofs.diagrams.Diagrams.combines_to.Goals as goal
@@ -22,6 +21,6 @@ returns-clause-is c =
     let known = known_parts (store_of was) c.args.a c.args.b (sym c.if-not-both_stand.ensures) in
     let other = sym c.if-not-stands.ensures in
     let built = c.in_ok-built.ensures in
-    let ran = came (combines_so _ (value_leaves c.args.rule)) known built in
+    let ran = came (combines_rule c.args.rule) known built in
     let told = compared c.in_ok-built.field-0 c.args.c _ ran.sound built.grown built.told ran.below ran.means (ltb-true _ _ other) in
     (sym c.if-not-both_stand.ensures, other, told.0, told.1)
