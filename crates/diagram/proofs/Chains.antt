@@ -93,22 +93,28 @@ module _ (ws : List ℕ) (fill b : ℕ) (x : Node) (here : b ≡ bucket (capacit
   pub walk_end : Walk ws fill b x 0 → None ≡ found (stored ws fill) x
   walk_end old = sym (found_none ws fill x (λ j h. old.above j (omega arith) h))
 
+-- ---- words that differ elsewhere
+
+-- the chains depend on the nodes in use, the heads and the links
+pub chained_by : (ws vs : List ℕ) (f : ℕ) → length vs ≡ length ws → ((k : ℕ) → k < f → node_at vs k ≡ node_at ws k) → ((b : ℕ) → get_or vs (7 * b + 3) 0 ≡ get_or ws (7 * b + 3) 0) →
+    ((k : ℕ) → k < f → get_or vs (7 * k + 4) 0 ≡ get_or ws (7 * k + 4) 0) → Chained ws f → Chained vs f
+unfolding bucket_at
+chained_by ws vs f long nodes heads links ch =
+    let buckets : (k : ℕ) → k < f → bucket_at ws k ≡ bucket_at vs k = λ k h i. bucket (sym long i / 7) (sym (nodes k h) i) in
+    let lasts : (m b : ℕ) → m ≤ f → last (bucket_at ws) m b ≡ last (bucket_at vs) m b = λ m b le. last_ext (bucket_at ws) (bucket_at vs) m b (λ j h. buckets j (omega arith)) in
+    record {
+      few = omega (arith, ch.few);
+      within = omega (arith, ch.within);
+      heads = λ b h. heads b ∙ ch.heads b (omega arith) ∙ lasts f b (omega arith);
+      links = λ k h. links k h ∙ ch.links k h ∙ lasts k (bucket_at ws k) (omega arith) ∙ ap (last (bucket_at vs) k) (buckets k h);
+    }
+
 -- ---- a node more
 
 -- the words of the node that is to come do not matter to the chains
 pub put_chained : (ws : List ℕ) (f : ℕ) (n : Node) → Chained ws f → Chained (putting ws f n) f
-unfolding bucket_at
-put_chained ws f n ch =
-    let vs = putting ws f n in
-    let long = putting_long ws f n in
-    let buckets : (k : ℕ) → k < f → bucket_at ws k ≡ bucket_at vs k = λ k h i. bucket (sym long i / 7) (sym (putting_node ws f n k (omega arith)) i) in
-    let lasts : (m k : ℕ) → m ≤ f → last (bucket_at ws) m k ≡ last (bucket_at vs) m k = λ m k le. last_ext (bucket_at ws) (bucket_at vs) m k (λ j h. buckets j (omega arith)) in
-    record {
-      few = omega (arith, ch.few);
-      within = omega (arith, ch.within);
-      heads = λ b h. putting_other ws f n (7 * b + 3) (omega arith) (omega arith) (omega arith) ∙ ch.heads b (omega arith) ∙ lasts f b (omega arith);
-      links = λ k h. putting_other ws f n (7 * k + 4) (omega arith) (omega arith) (omega arith) ∙ ch.links k h ∙ lasts k (bucket_at ws k) (omega arith) ∙ ap (last (bucket_at vs) k) (buckets k h);
-    }
+put_chained ws f n = chained_by ws (putting ws f n) f (putting_long ws f n) (λ k h. putting_node ws f n k (omega arith))
+    (λ b. putting_other ws f n (7 * b + 3) (omega arith) (omega arith) (omega arith)) (λ k h. putting_other ws f n (7 * k + 4) (omega arith) (omega arith) (omega arith))
 
 -- the newest node, k, goes to the head of its bucket's chain
 module _ (ws : List ℕ) (k b : ℕ) (chained : Chained ws k) (room : k < capacity ws) (bin : b < capacity ws) (is : b ≡ bucket_at ws k) where

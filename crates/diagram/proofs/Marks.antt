@@ -1,27 +1,21 @@
 -- A sweep in words: marks, nodes that move, chains that are made anew.
 use Rattle.std.proofs.Common.{◌≡◌, ℕ, ◌+◌, ◌-◌, ◌*◌, ◌<◌, ◌≤◌, Bool, true, false, cond, ◌||◌, eqb, ltb, ◌≢◌, List, ◌∷◌, map, length, get_or, drop, set, sym, refl, ap, ◌∙◌, ⊎_elim, add-one, arith, length-set, get_or-set_other, get_or-set_same}
+use Rattle.std.proofs.Math.Bool.{or_assoc, or-false}
 use Rattle.std.proofs.lemmas.List.{drop_more, drop_all}
 use Rattle.std.proofs.lemmas.Bool.{eq-eqb, ne_eqb, lt-ltb, le-ltb, cond-true, cond-false, cond_both, cases_eq, cases_lt, or_right, both_ways}
 use Rattle.diagram.specs.declared.node.Node.{Node}
 use Rattle.diagram.specs.Store.{Store, node_of, Sound}
 use Rattle.diagram.specs.Sweeping.{wanted, wanted_parts, Swept, keep_node, swept, reached, packed, mark_at, marked, marking, OnlyMarks, Closed, new_at, new_root}
 use Rattle.diagram.specs.Words.{capacity, node_at, putting, stored, last, bucket_at, Chained}
-use Rattle.diagram.proofs.Chains.{last_skip, cleared_chained}
+use Rattle.diagram.proofs.Chains.{last_skip, chained_by, cleared_chained}
 use Rattle.diagram.proofs.Counts.{older_parts}
 use Rattle.diagram.proofs.Sweeps.{reached_more, reached_ext, reached_parts, packed_ext, packed_other, swept-packed, map_wanted}
 use Rattle.diagram.proofs.Words.{length-stored, node_same, putting_long, putting_other, putting_here, stored_ext}
 
--- ---- tests
-
-or_none : (a b : Bool) → b ≡ false → (a || b) ≡ a
-or_none true b e = refl
-or_none false b e = e
-
-or_assoc : (a b c : Bool) → ((a || b) || c) ≡ (a || (b || c))
-or_assoc true b c = refl
-or_assoc false b c = refl
-
 -- ---- words
+
+or_none : (a : Bool) {b : Bool} → b ≡ false → (a || b) ≡ a
+or_none a e = ap (λ t. a || t) e ∙ or-false a
 
 -- a node is read from its first three words
 -- a leaf's new reference is its own, and a node's is its mark
@@ -54,12 +48,12 @@ marking_long ws r = cond_both (ltb r 8) ws (set ws (7 * (r - 8) + 5) 1) (λ vs. 
 
 marking_is : (ws : List ℕ) (r : ℕ) → r < 8 + capacity ws → (x : ℕ) → 8 ≤ x → marked (marking ws r) x ≡ (marked ws x || eqb x r)
 marking_is ws r h x lo = ⊎_elim
-    (λ (leaf : r < 8). ap (λ vs. marked vs x) (cond-true (ltb r 8) _ _ (lt-ltb r 8 leaf)) ∙ sym (or_none (marked ws x) _ (ne_eqb x r (λ e. omega arith))))
+    (λ (leaf : r < 8). ap (λ vs. marked vs x) (cond-true (ltb r 8) _ _ (lt-ltb r 8 leaf)) ∙ sym (or_none (marked ws x) (ne_eqb x r (λ e. omega arith))))
     (λ (node : 8 ≤ r).
     ap (λ vs. marked vs x) (cond-false (ltb r 8) _ _ (le-ltb r 8 node))
     ∙ ⊎_elim
     (λ (e : x ≡ r). ap (λ y. ltb 0 (mark_at (set ws (7 * (r - 8) + 5) 1) (y - 8))) e ∙ ap (ltb 0) (get_or-set_same ws (7 * (r - 8) + 5) 1 0 (omega arith)) ∙ sym (or_right (marked ws x) _ (eq-eqb x r e)))
-    (λ (ne : x ≡ r → ⊥). ap (ltb 0) (get_or-set_other ws (7 * (r - 8) + 5) (7 * (x - 8) + 5) 1 0 (λ e. ne (omega arith))) ∙ sym (or_none (marked ws x) _ (ne_eqb x r ne)))
+    (λ (ne : x ≡ r → ⊥). ap (ltb 0) (get_or-set_other ws (7 * (r - 8) + 5) (7 * (x - 8) + 5) 1 0 (λ e. ne (omega arith))) ∙ sym (or_none (marked ws x) (ne_eqb x r ne)))
     (cases_eq x r))
     (cases_lt r 8)
 
@@ -82,10 +76,10 @@ module _ (ws : List ℕ) (fill : ℕ) (roots vs : List ℕ) (i : ℕ) (old : Roo
   rooted_more h stands within = rooted_by h _ (marking_only ws vs (get_or roots i 0) old.only) (λ r lo hi. marking_is vs (get_or roots i 0) (omega arith) r lo)
 
   pub rooted_pass : i < length roots → 8 + fill ≤ get_or roots i 0 → Rooted ws fill roots vs (i + 1)
-  rooted_pass h past = rooted_by h vs old.only (λ r lo hi. sym (or_none (marked vs r) _ (ne_eqb r (get_or roots i 0) (λ e. omega arith))))
+  rooted_pass h past = rooted_by h vs old.only (λ r lo hi. sym (or_none (marked vs r) (ne_eqb r (get_or roots i 0) (λ e. omega arith))))
 
   pub rooted_all : length roots ≤ i → (r : ℕ) → 8 ≤ r → r < 8 + fill → marked vs r ≡ (marked ws r || wanted roots r)
-  rooted_all end r lo hi = sym (or_none (marked vs r) _ (ap (λ xs. wanted xs r) (drop_all i roots end))) ∙ old.marks r lo hi
+  rooted_all end r lo hi = sym (or_none (marked vs r) (ap (λ xs. wanted xs r) (drop_all i roots end))) ∙ old.marks r lo hi
 
 -- ---- the marks of parts: k nodes are still to be looked at
 
@@ -280,13 +274,7 @@ pub record Linked (ws vs : List ℕ) (k : ℕ) : Type 0 where
 
 -- chains that are empty stay so while the heads do
 pub empty_chains : (ws vs : List ℕ) → length vs ≡ length ws → ((b : ℕ) → get_or vs (7 * b + 3) 0 ≡ get_or ws (7 * b + 3) 0) → Chained ws 0 → Chained vs 0
-unfolding last
-empty_chains ws vs long heads ch = record {
-  few = omega (arith, ch.few);
-  within = omega arith;
-  heads = λ b h. heads b ∙ ch.heads b (omega arith);
-  links = λ k h. absurd (omega arith);
-}
+empty_chains ws vs long heads = chained_by ws vs 0 long (λ k h. absurd (omega arith)) heads (λ k h. absurd (omega arith))
 
 -- vs has the nodes of ws, and the marks of those that are reached from the roots
 pub record Reached (ws : List ℕ) (fill : ℕ) (roots vs : List ℕ) : Type 0 where
