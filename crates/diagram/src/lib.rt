@@ -7,7 +7,6 @@ mod kind;
 mod mark;
 mod memo;
 mod node;
-mod parts;
 mod refusal;
 mod rule;
 mod spread;

@@ -7,6 +7,8 @@ use crate::LEAVES;
 use crate::node::{COUNT, HEAD, Node, SIZE, node_at, put_node};
 use crate::table::{bucket_of, enter};
 
+// The functions below take a slice and a count: on the way the words are no table, so that `Diagrams` cannot hold them.
+
 // A node's mark stands where its count would: 0 for none, and once the node has moved, its new reference.
 const MARK: usize = COUNT;
 

@@ -7,6 +7,8 @@ use crate::LEAVES;
 use crate::node::{HEAD, LINK, Node, SIZE, node_at, put_node};
 use crate::spread::spread;
 
+// A table is lent as words: the functions below take a slice and a count, with the facts of `Diagrams` as requires.
+
 // The table has no room for a node that is needed.
 #[derive(Clone, Copy, Debug, PartialEq, Eq)]
 pub struct TableFull;
