@@ -1,14 +1,11 @@
 -- Asking a source for one pair more.
-use Rattle.std.proofs.Common.{◌≡◌, ℕ, ◌+◌, ◌*◌, ◌%◌, ◌^◌, ◌<◌, ◌≤◌, Bool, true, false, ◌&&◌, ◌||◌, ltb, ◌⊎◌, sym, refl, ap, ◌∙◌, inl, inr, ⊎_elim, arith}
+use Rattle.std.proofs.Common.{◌≡◌, ℕ, ◌+◌, ◌*◌, ◌%◌, ◌^◌, ◌<◌, ◌≤◌, Bool, true, false, ◌&&◌, ◌||◌, ltb, sym, refl, ap, ◌∙◌, ⊎_elim, arith}
 use lib.Bits.{bit_or}
 use Rattle.std.proofs.lemmas.Nat.{one_shl}
 use Rattle.std.proofs.lemmas.Bool.{cases_lt, cases_eq, lt-ltb, le-ltb, eq-eqb, ne_eqb}
 use Rattle.source.specs.Meanings.{Meaning, tells}
 use Rattle.source.specs.Sets.{has, QueryOf}
-use Rattle.source.proofs.Bits.{has_or, has_one, has_none}
-
-pub asked_none : (m : Meaning) → QueryOf 0 m 0
-asked_none m k = let none : ltb k 0 ≡ false = le-ltb _ _ (omega arith) in has_none k ∙ sym (ap (λ b. b && tells m k) none)
+use Rattle.source.proofs.Bits.{has_or, has_one}
 
 -- pairs other than p are below p + 1 where they are below p
 same_below : (p k : ℕ) → (k ≡ p → ⊥) → ltb k p ≡ ltb k (p + 1)
@@ -46,16 +43,3 @@ module _ (m : Meaning) (set p : ℕ) (inv : QueryOf p m set) where
       ap (λ b. has set k || b) (eq-eqb _ _ e) ∙ true_or (has set k) ∙ sym (ap (λ b. b && tells m k) there ∙ ap (tells m) e ∙ t))
       (λ (ne : k ≡ p → ⊥). ap (λ b. has set k || b) (ne_eqb _ _ ne) ∙ or_false (has set k) ∙ inv k ∙ ap (λ b. b && tells m k) (same_below p k ne))
       (cases_eq k p)
-
--- beyond pair 47 nothing is told, so that asking up to there is asking for all
-pub asked_all : (m : Meaning) (set n p : ℕ) → ((i : ℕ) → 48 ≤ i → tells m i ≡ false) → (p ≡ n) ⊎ ((48 ≤ p) × (p ≤ n)) → QueryOf p m set → QueryOf n m set
-asked_all m set n p quiet (inl e) inv k = inv k ∙ ap (λ j. ltb k j && tells m k) e
-asked_all m set n p quiet (inr r) inv k =
-    ⊎_elim
-    (λ (lt : k < p). let up : k < n = omega arith in inv k ∙ ap (λ b. b && tells m k) (lt-ltb _ _ lt ∙ sym (lt-ltb _ _ up)))
-    (λ (le : p ≤ k). let q = quiet k (omega arith) in inv k ∙ ap (λ b. ltb k p && b) q ∙ none (ltb k p) ∙ sym (ap (λ b. ltb k n && b) q ∙ none (ltb k n)))
-    (cases_lt k p)
-  where
-    none : (b : Bool) → (b && false) ≡ false
-    none true = refl
-    none false = refl

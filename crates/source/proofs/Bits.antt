@@ -1,13 +1,9 @@
 -- Sets of pairs in the bits of a number.
 use Rattle.std.proofs.Common.{◌≡◌, ℕ, zero, suc, ◌+◌, ◌-◌, ◌/◌, ◌%◌, ◌^◌, ◌<◌, ◌≤◌, false, ◌||◌, eqb, sym, refl, ap, ◌∙◌, ⊎_elim, add-zero, one-mul, arith, lit<, pow_mono}
-use lib.Bits.{bit_and, bit_or}
-use Rattle.std.proofs.lemmas.Nat.{and_mask, or_shr, or_mod, pow_pos, pow-add, shl-shr, mod_low, mod_below, div_below, pow_below}
+use lib.Bits.{bit_or}
+use Rattle.std.proofs.lemmas.Nat.{or_shr, or_mod, pow_pos, pow-add, shl-shr, mod_low, mod_below, div_below, pow_below}
 use Rattle.std.proofs.lemmas.Bool.{eq-eqb, ne_eqb, cases_lt, cases_eq}
 use Rattle.source.specs.Sets.{has}
-
--- the lowest bit, as a mask takes it
-pub low_bit : (n : ℕ) → bit_and n 1 ≡ n % 2
-low_bit n = and_mask n 1
 
 -- a number below 2^i has no pair i
 small : (n i : ℕ) → n < 2 ^ i → has n i ≡ false
@@ -15,9 +11,6 @@ small n i h =
     let less = div_below n (2 ^ i) 1 (pow_pos i) (rw one-mul h) in
     let z : n / 2 ^ i ≡ 0 = omega arith in
     ap (λ q. eqb (q % 2) 1) z
-
-pub has_none : (i : ℕ) → has 0 i ≡ false
-has_none i = small 0 i (pow_pos i)
 
 -- a 64-bit number has no pair from 64 on
 pub none_above : (set i : ℕ) → set < 2 ^ 64 → 64 ≤ i → has set i ≡ false

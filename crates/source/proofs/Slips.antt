@@ -1,35 +1,34 @@
 -- Slips: the walk over their entries, and bytes for every meaning.
-use Rattle.std.proofs.Common.{◌≡◌, ℕ, zero, suc, ◌+◌, ◌*◌, ◌<◌, ◌≤◌, cond, ◌&&◌, eqb, ltb, List, [], ◌∷◌, length, get_or, drop, Some, None, Option, sym, refl, ap, ◌∙◌, ⊎_elim, mod-eq_of_lt, arith, lit<}
-use Rattle.std.proofs.lemmas.List.{drop_more, length-drop}
+use Rattle.std.proofs.Common.{◌≡◌, ℕ, zero, suc, ◌-◌, ◌<◌, ◌≤◌, cond, ◌&&◌, eqb, ltb, List, [], ◌∷◌, length, get_or, take, drop, Some, None, Option, sym, refl, ap, ◌∙◌, ⊎_elim, mod-eq_of_lt, arith, lit<}
+use Rattle.std.proofs.lemmas.List.{take_all}
 use Rattle.std.proofs.lemmas.Bool.{cond-true, cond-false, cases_lt, cases_eq, eq-eqb, ne_eqb, lt-ltb, le-ltb, and_left, and_from}
 use Rattle.source.specs.Meanings.{Meaning, labelled}
 use Rattle.source.specs.Slip.{slip_label, HeldBySlip}
 
--- ---- one entry after the other; the entry j stands at 2 * j
+-- ---- one entry after the other
 
-module _ (bs : List ℕ) (j i : ℕ) where
-  at_entry : 2 * j + 1 < length bs → slip_label (drop (2 * j) bs) i ≡ cond (eqb (get_or bs (2 * j) 0) i && ltb i 48) (labelled (get_or bs (2 * j + 1) 0)) (slip_label (drop (2 * (j + 1)) bs) i)
-  unfolding slip_label
-  at_entry h =
-      let p = drop_more bs (2 * j) 0 (omega arith) in
-      let l = drop_more bs (2 * j + 1) 0 h in
-      let e : 2 * j + 1 + 1 ≡ 2 * (j + 1) = omega arith in
-      ap (λ xs. slip_label xs i) (p ∙ ap (λ xs. get_or bs (2 * j) 0 ∷ xs) (l ∙ ap (λ n. get_or bs (2 * j + 1) 0 ∷ drop n bs) e))
+-- the bytes after the first entry
+later : List ℕ → List ℕ
+later bs = take (length bs - 2) (drop 2 bs)
 
-  pub found : 2 * j + 1 < length bs → i < 48 → get_or bs (2 * j) 0 ≡ i → slip_label (drop (2 * j) bs) i ≡ labelled (get_or bs (2 * j + 1) 0)
-  found h w e = at_entry h ∙ cond-true _ _ _ (and_from _ _ (eq-eqb _ _ e) (lt-ltb _ _ w))
+at_entry : (bs : List ℕ) (i : ℕ) → 2 ≤ length bs → slip_label bs i ≡ cond (eqb (get_or bs 0 0) i && ltb i 48) (labelled (get_or bs 1 0)) (slip_label (later bs) i)
+unfolding slip_label later
+at_entry [] i h = absurd (omega arith)
+at_entry (p ∷ []) i h = absurd (omega arith)
+at_entry (p ∷ l ∷ rest) i h = ap (λ xs. cond (eqb p i && ltb i 48) (labelled l) (slip_label xs i)) (sym (take_all (length (p ∷ l ∷ rest) - 2) rest (omega arith)))
 
-  pub passed : 2 * j + 1 < length bs → (get_or bs (2 * j) 0 ≡ i → ⊥) → slip_label (drop (2 * j) bs) i ≡ slip_label (drop (2 * (j + 1)) bs) i
-  passed h ne = at_entry h ∙ cond-false _ _ _ (and_left _ _ (ne_eqb _ _ ne))
+pub found : (bs : List ℕ) (i : ℕ) → 2 ≤ length bs → i < 48 → get_or bs 0 0 ≡ i → slip_label bs i ≡ labelled (get_or bs 1 0)
+found bs i h w e = at_entry bs i h ∙ cond-true _ _ _ (and_from _ _ (eq-eqb _ _ e) (lt-ltb _ _ w))
 
-few : (bs : List ℕ) (i : ℕ) → length bs < 2 → slip_label bs i ≡ None
+pub passed : (bs : List ℕ) (i : ℕ) → 2 ≤ length bs → (get_or bs 0 0 ≡ i → ⊥) → slip_label bs i ≡ slip_label (take (length bs - 2) (drop 2 bs)) i
+unfolding later
+passed bs i h ne = at_entry bs i h ∙ cond-false _ _ _ (and_left _ _ (ne_eqb _ _ ne))
+
+pub few : (bs : List ℕ) (i : ℕ) → length bs < 2 → slip_label bs i ≡ None
 unfolding slip_label
 few [] i h = refl
 few (b ∷ []) i h = refl
 few (b ∷ c ∷ bs) i h = absurd (omega arith)
-
-pub no_more : (bs : List ℕ) (j i : ℕ) → length bs < 2 * j + 2 → slip_label (drop (2 * j) bs) i ≡ None
-no_more bs j i h = few (drop (2 * j) bs) i (let l = length-drop (2 * j) bs in omega arith)
 
 -- ---- bytes for a meaning: an entry for each pair below n that it tells
 

@@ -1,12 +1,12 @@
 -- A strainer passes the pairs whose label is among its first eight listed labels.
-use Rattle.std.specs.Prelude.{◌≡◌, ℕ, ◌<◌, Bool, true, false, cond, ◌||◌, List, [], ◌∷◌, take, Some, None, Option, ◌==◌}
+use Rattle.std.specs.Prelude.{◌≡◌, ℕ, ◌<◌, Bool, true, false, cond, List, take, Some, None, Option, ◌==◌}
+use Rattle.std.specs.List.{list_any}
 use Rattle.std.proofs.Common.{ap, arith}
 use Rattle.source.specs.Meanings.{Meaning}
 
 -- is l one of these?
-unfoldable pub among : List ℕ → ℕ → Bool
-among [] l = false
-among (x ∷ xs) l = x == l || among xs l
+abbrev pub among : List ℕ → ℕ → Bool
+among labels l = list_any (λ x. x == l) labels
 
 -- the label, if it is one of the first eight that are listed
 abbrev pub strained : List ℕ → Option ℕ → Option ℕ

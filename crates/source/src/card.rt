@@ -1,6 +1,5 @@
 ghost use Rattle.source.specs.Card.{card as card_meaning};
 
-use crate::label::labelled;
 use crate::set::contains;
 use crate::{PAIRS, Source};
 
@@ -15,14 +14,10 @@ impl Source for Card {
     ghost meaning = { λ s. card_meaning s.pairs s.label };
 
     fn tells(&self, pair: u8) -> bool {
-        let last = PAIRS - 1;
-        pair <= last && contains(self.pairs, pair)
+        pair < PAIRS && contains(self.pairs, pair)
     }
 
     fn label(&self, pair: u8) -> Option<u8> {
-        if !self.tells(pair) {
-            return None;
-        }
-        labelled(self.label)
+        self.tells(pair).then_some(self.label)
     }
 }

@@ -17,9 +17,6 @@ impl<A: Source, B: Source> Source for Joint<A, B> {
     }
 
     fn label(&self, pair: u8) -> Option<u8> {
-        match self.first.label(pair) {
-            Some(label) => Some(label),
-            None => self.second.label(pair),
-        }
+        self.first.label(pair).or_else(|| self.second.label(pair))
     }
 }

@@ -7,7 +7,6 @@ ghost use Rattle.source.specs.Sets.{QueryOf};
 
 mod card;
 mod joint;
-mod label;
 mod set;
 mod shutter;
 mod slip;

@@ -1,7 +1,6 @@
 ghost use Rattle.std.specs.Prelude.{◌≡◌};
 ghost use Rattle.source.specs.Slip.{slip as slip_meaning, HoldsEveryMeaning};
 
-use crate::label::labelled;
 use crate::{PAIRS, Source};
 
 // Received bytes, a pair and then its label.
@@ -31,11 +30,12 @@ impl Source for Slip<'_> {
         if pair >= PAIRS {
             return None;
         }
-        let bytes = self.bytes;
-        for k in 0..bytes.len() / 2 {
-            if bytes[2 * k] == pair {
-                return labelled(bytes[2 * k + 1]);
+        let mut rest = self.bytes;
+        while let [told, label, later @ ..] = rest {
+            if *told == pair {
+                return Some(*label);
             }
+            rest = later;
         }
         None
     }

@@ -17,12 +17,7 @@ const LISTED: usize = 8;
 fn passes(labels: &[u8], label: u8) -> bool
     ensures { result ≡ among (take 8 labels.now) label }
 {
-    for i in 0..labels.len().min(LISTED) {
-        if labels[i] == label {
-            return true;
-        }
-    }
-    false
+    labels.iter().take(LISTED).any(|listed| *listed == label)
 }
 
 impl<S: Source> Source for Strainer<'_, S> {
@@ -33,14 +28,8 @@ impl<S: Source> Source for Strainer<'_, S> {
     }
 
     fn label(&self, pair: u8) -> Option<u8> {
-        match self.below.label(pair) {
-            Some(label) => {
-                if !passes(self.labels, label) {
-                    return None;
-                }
-                Some(label)
-            }
-            None => None,
-        }
+        self.below
+            .label(pair)
+            .filter(|label| passes(self.labels, *label))
     }
 }

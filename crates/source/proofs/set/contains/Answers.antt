@@ -1,10 +1,7 @@
-use Rattle.std.proofs.Common.{◌/◌, ◌^◌, ◌<◌, eqb, sym, ap, ◌∙◌}
+use Rattle.std.proofs.Common.{◌^◌, ◌<◌, sym, ◌∙◌}
 use Rattle.std.proofs.lemmas.Bool.{le-ltb}
-use Rattle.source.proofs.Bits.{low_bit, none_above}
+use Rattle.source.proofs.Bits.{none_above}
 use Rattle.source.proofs.set.contains.Goals as goal
-
-pub returns-then-pair-lt64 : goal.returns-then-pair-lt64
-returns-then-pair-lt64 c = ap (λ n. eqb n 1) (low_bit (c.args.set / 2 ^ c.args.pair))
 
 pub returns-else-pair-lt64 : goal.returns-else-pair-lt64
 returns-else-pair-lt64 c =

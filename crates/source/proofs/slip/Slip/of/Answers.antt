@@ -1,6 +1,5 @@
-use Rattle.std.proofs.Common.{refl}
 use Rattle.source.proofs.Slips.{held}
 use Rattle.source.proofs.slip.Slip.of.Goals as goal
 
-pub returns : goal.returns
-returns c = record { bytes = refl; every_meaning = held }
+pub returns-clause-every_meaning : goal.returns-clause-every_meaning
+returns-clause-every_meaning c = held
