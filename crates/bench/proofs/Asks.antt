@@ -1,13 +1,14 @@
 -- What the calls that ask a shelf rest on.
-use Rattle.std.proofs.Common.{◌≡◌, ℕ, zero, suc, ◌+◌, ◌<◌, ◌≤◌, true, false, ltb, get_or, replicate, Ok, Result, sym, refl, ap, ◌∙◌, subst, ⊎_elim, arith}
+use Rattle.std.proofs.Common.{◌≡◌, ℕ, zero, suc, ◌<◌, ◌≤◌, true, false, ltb, ◌⊎◌, get_or, replicate, Ok, Result, refl, ◌∙◌, subst, ⊎_elim, arith}
 use Rattle.std.proofs.lemmas.Bool.{cond-true, cond-false, cases_Bool}
 use Rattle.diagram.specs.Store.{mark}
-use Rattle.diagram.proofs.Words.{length-stored}
 use Rattle.bench.specs.declared.bench.Bench.{Bench}
 use Rattle.bench.specs.declared.fault.Fault.{Fault}
 use Rattle.bench.specs.declared.shelf.Shelf.{Shelf}
 use Rattle.bench.specs.declared.shelf.Shelf.TheVariants as shelf
-use Rattle.bench.specs.Asking.{shelf_at, then}
+use Rattle.bench.specs.declared.shelf.Draft.{Draft}
+use Rattle.bench.specs.declared.shelf.Lists.{Lists}
+use Rattle.bench.specs.Asking.{DraftStands, shelf_at}
 use Rattle.bench.specs.Shelves.{pairs_of, reference}
 use Rattle.bench.specs.State.{State, state_of}
 
@@ -33,12 +34,15 @@ pub record On (b : Bench) (x : Shelf) : Type 0 where
 pub on_shelf : (b : Bench) (k : ℕ) (x y : Shelf) → Ok x ≡ shelf_at (state_of b) k → x ≡ y → On b y
 on_shelf b k x y e is =
     let same = found (state_of b) k x e ∙ is in
-    let long = length-stored b.words.now b.fill in
     record {
       few = subst (λ z. pairs_of z ≤ 48) same (b.pairs k);
-      stands = λ j. let low = subst (λ z. reference z j < 8 + b.fill) same (b.stand k j) in omega arith;
+      stands = λ j. subst (λ z. reference z j < mark (state_of b).store) same (b.stand k j);
     }
 
--- a call goes on with what was found
-pub goes_on : {A : Type 0} (s : State) (k : ℕ) (x y : Shelf) (next : Shelf → Result A Fault) → Ok x ≡ shelf_at s k → x ≡ y → next y ≡ then (shelf_at s k) next
-goes_on s k x y next e is = ap next (sym is) ∙ ap (λ r. then r next) e
+-- the policy of a shelf, draft or closed, stands
+pub policy_stands : (b : Bench) (k : ℕ) (x : Shelf) (d : Draft) → Ok x ≡ shelf_at (state_of b) k → (x ≡ shelf.Draft d) ⊎ ((l : Lists) × (x ≡ shelf.Closed d l)) → DraftStands (state_of b) (Ok d)
+policy_stands b k x d e is =
+    ⊎_elim
+    (λ (draft : x ≡ shelf.Draft d). let here = on_shelf b k x _ e draft in (here.few, here.stands 0, here.stands 1))
+    (λ (closed : (l : Lists) × (x ≡ shelf.Closed d l)). let here = on_shelf b k x _ e closed.1 in (here.few, here.stands 0, here.stands 1))
+    is

@@ -1,5 +1,5 @@
 -- What holds of the shelves, and of shelves of which one is changed.
-use Rattle.std.proofs.Common.{◌≡◌, ℕ, zero, suc, ◌+◌, ◌-◌, ◌<◌, ◌≤◌, List, [], ◌∷◌, length, get_or, drop, set, sym, refl, ap, ◌∙◌, subst, ⊎_elim, arith, get_or-set_other, get_or-set_same}
+use Rattle.std.proofs.Common.{◌≡◌, ℕ, zero, suc, ◌-◌, ◌<◌, ◌≤◌, List, [], ◌∷◌, length, get_or, drop, set, sym, refl, ap, ◌∙◌, subst, ⊎_elim, arith, get_or-set_other, get_or-set_same}
 use Rattle.std.proofs.lemmas.Bool.{cases_eq, cases_lt}
 use Rattle.diagram.specs.Store.{Store, Grown, still, newer}
 use Rattle.diagram.proofs.Stands.{grown_length}
@@ -7,13 +7,10 @@ use Rattle.bench.specs.declared.shelf.Shelf.{Shelf}
 use Rattle.bench.specs.declared.shelf.Shelf.TheVariants as shelf
 use Rattle.bench.specs.Shelves.{pairs_of, reference}
 
--- every reference stands among so many nodes, and no policy has more than 48 pairs
-pub record Fitting (shelves : List Shelf) (fill : ℕ) : Type 0 where
-  pub stand : (i k : ℕ) → reference (get_or shelves i shelf.Empty) k < 8 + fill
+-- every reference is below this, and no policy has more than 48 pairs
+pub record Fitting (shelves : List Shelf) (end : ℕ) : Type 0 where
+  pub stand : (i k : ℕ) → reference (get_or shelves i shelf.Empty) k < end
   pub pairs : (i : ℕ) → pairs_of (get_or shelves i shelf.Empty) ≤ 48
-
-pub empty_stands : (k fill : ℕ) → reference shelf.Empty k < 8 + fill
-empty_stands k fill = omega arith
 
 set_past : (shelves : List Shelf) (j : ℕ) (x : Shelf) → length shelves ≤ j → set shelves j x ≡ shelves
 set_past [] zero x h = refl
@@ -21,16 +18,16 @@ set_past [] (suc j) x h = refl
 set_past (y ∷ ys) zero x h = absurd (omega arith)
 set_past (y ∷ ys) (suc j) x h = ap (λ zs. y ∷ zs) (set_past ys j x (omega arith))
 
-pub fitting_put : (shelves : List Shelf) (f g j : ℕ) (x : Shelf) → Fitting shelves f → f ≤ g → ((k : ℕ) → reference x k < 8 + g) → pairs_of x ≤ 48 → Fitting (set shelves j x) g
+pub fitting_put : (shelves : List Shelf) (f g j : ℕ) (x : Shelf) → Fitting shelves f → f ≤ g → ((k : ℕ) → reference x k < g) → pairs_of x ≤ 48 → Fitting (set shelves j x) g
 fitting_put shelves f g j x old more stands few = record { stand = λ i k. (at i).0 k; pairs = λ i. (at i).1 }
   where
-    same : (y z : Shelf) → y ≡ z → ((k : ℕ) → reference z k < 8 + g) × (pairs_of z ≤ 48) → ((k : ℕ) → reference y k < 8 + g) × (pairs_of y ≤ 48)
-    same y z e h = subst (λ w. ((k : ℕ) → reference w k < 8 + g) × (pairs_of w ≤ 48)) (sym e) h
+    same : (y z : Shelf) → y ≡ z → ((k : ℕ) → reference z k < g) × (pairs_of z ≤ 48) → ((k : ℕ) → reference y k < g) × (pairs_of y ≤ 48)
+    same y z e h = subst (λ w. ((k : ℕ) → reference w k < g) × (pairs_of w ≤ 48)) (sym e) h
 
-    before : (i : ℕ) → ((k : ℕ) → reference (get_or shelves i shelf.Empty) k < 8 + g) × (pairs_of (get_or shelves i shelf.Empty) ≤ 48)
+    before : (i : ℕ) → ((k : ℕ) → reference (get_or shelves i shelf.Empty) k < g) × (pairs_of (get_or shelves i shelf.Empty) ≤ 48)
     before i = ((λ k. omega (arith, old.stand i k)), old.pairs i)
 
-    at : (i : ℕ) → ((k : ℕ) → reference (get_or (set shelves j x) i shelf.Empty) k < 8 + g) × (pairs_of (get_or (set shelves j x) i shelf.Empty) ≤ 48)
+    at : (i : ℕ) → ((k : ℕ) → reference (get_or (set shelves j x) i shelf.Empty) k < g) × (pairs_of (get_or (set shelves j x) i shelf.Empty) ≤ 48)
     at i =
         ⊎_elim
         (λ (e : i ≡ j). ⊎_elim
@@ -50,17 +47,3 @@ rolled {s} (newer {t = t} n g) =
 
 pub rolled_none : (t : Store) → drop (length t - length t) t ≡ t
 rolled_none t = let z : length t - length t ≡ 0 = omega arith in ap (λ n. drop n t) z
-
--- four empty shelves
-four_empty : (i : ℕ) → get_or (shelf.Empty ∷ shelf.Empty ∷ shelf.Empty ∷ shelf.Empty ∷ []) i shelf.Empty ≡ shelf.Empty
-four_empty zero = refl
-four_empty (suc zero) = refl
-four_empty (suc (suc zero)) = refl
-four_empty (suc (suc (suc zero))) = refl
-four_empty (suc (suc (suc (suc i)))) = refl
-
-pub fresh_fits : (fill : ℕ) → Fitting (shelf.Empty ∷ shelf.Empty ∷ shelf.Empty ∷ shelf.Empty ∷ []) fill
-fresh_fits fill = record {
-  stand = λ i k. subst (λ x. reference x k < 8 + fill) (sym (four_empty i)) (empty_stands k fill);
-  pairs = λ i. subst (λ x. pairs_of x ≤ 48) (sym (four_empty i)) (omega arith);
-}

@@ -1,13 +1,11 @@
 -- What the calls that change the bench answer, and what they leave.
-use Rattle.std.specs.Prelude.{ℕ, List, Ok, Err, Result, slice_set}
+use Rattle.std.specs.Prelude.{ℕ, Ok, Err, Result, slice_set}
 use Rattle.diagram.specs.Store.{Store}
 use Rattle.bench.specs.declared.fault.Fault.{Fault}
 use Rattle.bench.specs.declared.fault.Fault.TheVariants.{Below}
 use Rattle.bench.specs.declared.fault.LoadFault.TheVariants.{Table}
 use Rattle.bench.specs.declared.fault.Reason.TheVariants.{Empty, AlreadyClosed}
-use Rattle.bench.specs.declared.full.TableFull.{TableFull}
 use Rattle.bench.specs.declared.shelf.Draft.{Draft}
-use Rattle.bench.specs.declared.shelf.Lists.{Lists}
 use Rattle.bench.specs.declared.shelf.Shelf.{Shelf}
 use Rattle.bench.specs.declared.shelf.Shelf.TheVariants as shelf
 use Rattle.bench.specs.Asking.{refuse, then, shelf_at, policy_at}
@@ -49,11 +47,6 @@ draft_at s k = then (shelf_at s k) (draft_on k)
 abbrev pub close_with : State → ℕ → Draft → Listing → Step (Unit {0})
 close_with s k d no_lists = full_at s k 0
 close_with s k d (lists_done t e r) = (put_shelf s t k (shelf.Closed d (record { lists = e; reaches = r })), Ok tt)
-
--- the shelves after it and its answer, by what was built
-abbrev pub conclude : List Shelf → ℕ → Draft → Result Lists TableFull → List Shelf × Result (Unit {0}) Fault
-conclude shelves k d (Ok l) = (slice_set shelves k (shelf.Closed d l), Ok tt)
-conclude shelves k d (Err e) = (shelves, Err (Below k (Table (record { place = 0 }))))
 
 -- close: the shelf also has its lists
 abbrev pub closes : State → ℕ → Step (Unit {0})

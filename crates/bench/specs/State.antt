@@ -1,7 +1,7 @@
 -- What the calls of a bench depend on: how many nodes there is room for, the nodes below the fill mark, and the shelves.
 -- Working words, the memo and the words above the fill mark are no part of it.
 use Rattle.std.specs.Prelude.{ℕ, ◌/◌, min, List, [], ◌∷◌}
-use Rattle.diagram.specs.Words.{capacity, stored}
+use Rattle.diagram.specs.Held.{room_of, store_of}
 use Rattle.diagram.specs.Store.{Store}
 use Rattle.bench.specs.declared.bench.Bench.{Bench}
 use Rattle.bench.specs.declared.shelf.Shelf.{Shelf}
@@ -15,7 +15,7 @@ pub record State : Type 0 where
 
 -- the state that a bench is in
 abbrev pub state_of : Bench → State
-state_of b = record { room = capacity b.words.now; store = stored b.words.now b.fill; shelves = b.shelves }
+state_of b = record { room = room_of b.diagrams; store = store_of b.diagrams; shelves = b.shelves }
 
 -- how many nodes so many words have room for
 abbrev pub nodes_in : ℕ → ℕ

@@ -7,12 +7,8 @@ ghost use Rattle.bench.specs.State.{state_of};
 use super::Bench;
 use crate::fault::{Fault, Reason};
 use crate::shelf::{Draft, Lists, Shelf};
-use diagram::View;
 use policy::Decision;
 use source::Source;
-
-// There are four shelves.
-const SHELVES: u8 = 4;
 
 // The pairs below n that the source tells, entry i for pair i; it is questioned for each of them, in rising order.
 fn ask<S: Source>(source: &S, n: u8) -> [bool; 48]
@@ -42,10 +38,10 @@ impl<'m> Bench<'m> {
     pub(super) fn at(&self, shelf: u8) -> Result<Shelf, Fault>
         ensures { result ≡ shelf_at (state_of self.now) shelf }
     {
-        if shelf >= SHELVES {
-            return Err(Reason::NoShelf.on(shelf));
-        }
-        Ok(self.shelves[shelf as usize])
+        self.shelves
+            .get(shelf as usize)
+            .copied()
+            .ok_or(Reason::NoShelf.on(shelf))
     }
 
     // The policy on the shelf, draft or closed.
@@ -53,11 +49,9 @@ impl<'m> Bench<'m> {
         ensures is { result ≡ policy_at (state_of self.now) shelf }
         ensures stands { DraftStands (state_of self.now) result }
     {
-        let on = self.at(shelf)?;
-        match on {
+        match self.at(shelf)? {
             Shelf::Empty => Err(Reason::Empty.on(shelf)),
-            Shelf::Draft(draft) => Ok(draft),
-            Shelf::Closed(draft, _) => Ok(draft),
+            Shelf::Draft(draft) | Shelf::Closed(draft, _) => Ok(draft),
         }
     }
 
@@ -66,8 +60,7 @@ impl<'m> Bench<'m> {
         ensures is { result ≡ closed_at (state_of self.now) shelf }
         ensures stands { ClosedStands (state_of self.now) result }
     {
-        let on = self.at(shelf)?;
-        match on {
+        match self.at(shelf)? {
             Shelf::Empty => Err(Reason::Empty.on(shelf)),
             Shelf::Draft(_) => Err(Reason::NotClosed.on(shelf)),
             Shelf::Closed(draft, lists) => Ok((draft, lists)),
@@ -81,14 +74,7 @@ impl<'m> Bench<'m> {
         ensures is { result ≡ leaf_of (state_of self.now) draft (S.Source.meaning source.now) a }
         ensures code { result < 8 }
     {
-        let view = View {
-            words: self.words,
-            fill: self.fill,
-        };
-        match view.value(ask(source, draft.pairs), a) {
-            Ok(leaf) => leaf,
-            Err(_) => unreachable(),
-        }
+        self.diagrams.value(ask(source, draft.pairs), a).unwrap()
     }
 
     // The decision of the source's query, valid or not.

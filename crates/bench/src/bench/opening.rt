@@ -11,11 +11,8 @@ impl<'m> Bench<'m> {
     pub fn open(nodes: &'m mut [u32], memo: &'m mut [u32]) -> Self
         ensures { state_of result ≡ fresh (nodes_in (length nodes.old)) }
     {
-        let Diagrams { words, memo, fill } = Diagrams::open(nodes, memo);
         Bench {
-            words,
-            memo,
-            fill,
+            diagrams: Diagrams::open(nodes, memo),
             shelves: [Shelf::Empty; 4],
         }
     }

@@ -1,10 +1,8 @@
-use Rattle.bench.specs.Asking.{closed_on}
-use Rattle.bench.specs.State.{state_of}
-use Rattle.bench.proofs.Asks.{on_shelf, goes_on}
+use Rattle.std.proofs.Common.{sym, ◌∙◌}
+use Rattle.bench.proofs.Asks.{on_shelf}
 use Rattle.bench.proofs.bench.Bench.closed.Goals as goal
 
-pub returns-in-Closed : goal.returns-in-Closed
-returns-in-Closed c =
-    let b = c.args.self.now in
-    let here = on_shelf b c.args.shelf c.in_ok-on.on _ c.in_ok-on.ensures c.in-Closed.is in
-    record { is = goes_on (state_of b) c.args.shelf c.in_ok-on.on _ (closed_on c.args.shelf) c.in_ok-on.ensures c.in-Closed.is; stands = (here.few, here.stands 2, here.stands 3) }
+pub returns-in-Closed-clause-stands : goal.returns-in-Closed-clause-stands
+returns-in-Closed-clause-stands c =
+    let here = on_shelf c.args.self.now c.args.shelf _ _ (sym c.in_ok-at.was ∙ c.at.ensures) c.in-Closed.is in
+    (here.few, here.stands 2, here.stands 3)

@@ -1,21 +1,12 @@
-use Rattle.std.proofs.Common.{◌<◌, sym, ap, ◌∙◌, subst, arith}
-use mathlib.Core.Path.{fun_ext}
-use Rattle.std.proofs.lemmas.Bool.{ltb-false}
-use Rattle.diagram.specs.Store.{eval}
-use Rattle.diagram.specs.Words.{stored}
+use Rattle.std.proofs.Common.{◌<◌, subst, sym}
+use Rattle.diagram.specs.Calls.{Valued}
+use Rattle.diagram.specs.Held.{store_of}
 use Rattle.diagram.proofs.Canonical.{eval_code}
-use Rattle.diagram.proofs.Once.{sound_of}
+use Rattle.diagram.proofs.Standing.{standing}
 use Rattle.bench.proofs.bench.Bench.leaf.Goals as goal
 
-pub unreachable-requires : goal.unreachable-requires
-unreachable-requires g c = omega (arith, c.requires.stands, ltb-false _ _ c.in-Err.ensures.1)
-
-pub returns : goal.returns
-returns g c =
-    let b = c.args.self.now in
-    let s = stored b.words.now b.fill in
-    let is = c.in-Ok.ensures.1 in
-    record {
-      is = is ∙ ap (eval s c.args.a) (fun_ext c.ask.ensures);
-      code = subst (λ x. x < 8) (sym is) (eval_code s (sound_of s b.sound) c.args.a c.requires.stands _);
-    }
+pub returns-clause-code : goal.returns-clause-code
+returns-clause-code g c =
+    let d = c.args.self.now.diagrams in
+    let value = subst (Valued (store_of d) c.args.a c.ask.result) c.unwrap.ensures c.value.ensures in
+    subst (λ x. x < 8) (sym value.1) (eval_code (store_of d) (standing d) c.args.a c.requires.stands _)
