@@ -1,13 +1,13 @@
 -- The steps of the code that makes a target.
 use Rattle.std.proofs.Common.{◌≡◌, ℕ, ◌+◌, ◌-◌, ◌<◌, ◌≤◌, Result, sym, ap, ◌∙◌, subst, arith}
 use Rattle.std.proofs.lemmas.Bool.{cond-true, cond-false, lt-ltb, le-ltb}
-use Rattle.bench.specs.declared.full.TableFull.{TableFull}
+use Rattle.diagram.specs.declared.table.TableFull.{TableFull}
 use Rattle.diagram.specs.Store.{Store, eval, full, done, bind, node_of, made, Later, Sound}
 use Rattle.diagram.proofs.Builds.{holds_at, bind_full, bind_done}
 use Rattle.diagram.proofs.Makes.{Made, made_at}
 use Rattle.policy.specs.Policies.{pair, value, present_from}
 use Rattle.bench.specs.Building.{From, IsTarget, chain, earlier, target}
-use Rattle.bench.specs.Told.{Told}
+use Rattle.diagram.specs.Told.{Told}
 use Rattle.bench.proofs.Answering.{told_gives}
 use Rattle.bench.proofs.Targets.{unless, chain_holds, target_holds}
 use Rattle.bench.proofs.Yielding.{Yields, yields_from, from_grown, from_later, leaf_from, leaf_later}

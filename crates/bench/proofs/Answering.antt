@@ -1,12 +1,12 @@
 -- What an answer says once its outcome is known.
 use Rattle.std.proofs.Common.{◌≡◌, ℕ, true, List, is_err, Ok, Err, Result, ◌∙◌}
 use mathlib.Core.Bool.{false≢true}
-use Rattle.bench.specs.declared.full.TableFull.{TableFull}
+use Rattle.diagram.specs.declared.table.TableFull.{TableFull}
 use Rattle.diagram.specs.Store.{Store, Query, Outcome, full}
 use Rattle.diagram.specs.Told.{Gives}
 use Rattle.diagram.proofs.Builds.{Holds, holds_at}
 use Rattle.bench.specs.Building.{Row, no_row, ToldRow}
-use Rattle.bench.specs.Told.{Told}
+use Rattle.diagram.specs.Told.{Told}
 use Rattle.bench.proofs.Yielding.{Yields}
 
 module _ (t : Store) where

@@ -1,12 +1,12 @@
 -- The turns of the loop that makes the rows of a limit.
 use Rattle.std.proofs.Common.{◌≡◌, ℕ, suc, ◌+◌, ◌-◌, ◌<◌, ◌≤◌, cond, List, length, get_or, Result, sym, refl, ap, ◌∙◌, subst, arith}
-use Rattle.bench.specs.declared.full.TableFull.{TableFull}
+use Rattle.diagram.specs.declared.table.TableFull.{TableFull}
 use Rattle.bench.specs.declared.build.Limit.{Limit}
 use Rattle.diagram.specs.Store.{Store, Query, eval, full, done, Sound, Grown, still}
 use Rattle.diagram.proofs.Stands.{grown_trans}
 use Rattle.policy.specs.Policies.{meets}
 use Rattle.bench.specs.Building.{From, FromAll, IsLimit, is_met, leaves, no_row, row, with_row, next_row, rows, limited, limits}
-use Rattle.bench.specs.Told.{Told}
+use Rattle.diagram.specs.Told.{Told}
 use Rattle.bench.proofs.Answering.{told_gives}
 use Rattle.bench.proofs.Limits.{Rowed, row_holds_at, next_row_holds, leaf_entry, limited_holds}
 

@@ -5,9 +5,9 @@ use Rattle.diagram.proofs.Builds.{Holds, bind_holds, holds_by}
 use Rattle.diagram.proofs.Makes.{Made, made_at}
 use Rattle.diagram.proofs.Stands.{grown_trans, eval_leaf}
 use Rattle.policy.specs.Policies.{never_both, meets}
-use Rattle.bench.specs.declared.full.TableFull.{TableFull}
+use Rattle.diagram.specs.declared.table.TableFull.{TableFull}
 use Rattle.bench.specs.Building.{IsExclusion, exclusion}
-use Rattle.bench.specs.Told.{Told}
+use Rattle.diagram.specs.Told.{Told}
 use Rattle.bench.proofs.Answering.{told_gives}
 use Rattle.bench.proofs.Yielding.{Yields, yields_as, leaf_from, leaf_later, node_over}
 

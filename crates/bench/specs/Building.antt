@@ -2,7 +2,7 @@
 use Rattle.std.specs.Prelude.{◌≡◌, ℕ, zero, suc, ◌+◌, ◌-◌, ◌<◌, ◌≤◌, Bool, cond, List, [], ◌∷◌, Ok, Err, Result, nat_le, nat_lt, slice_index, slice_set}
 use Rattle.bench.specs.declared.build.Limit.{Limit}
 use Rattle.bench.specs.declared.build.Limit.TheVariants.{AtMost, AtLeast}
-use Rattle.bench.specs.declared.full.TableFull.{TableFull}
+use Rattle.diagram.specs.declared.table.TableFull.{TableFull}
 use Rattle.diagram.specs.Store.{Store, mark, node_of, top, Outcome, full, done, bind, made}
 use Rattle.diagram.specs.Told.{Gives}
 use Rattle.policy.specs.Policies.{Attribute, pair, value, Constraint, never_both, at_most, at_least, meets}

@@ -5,7 +5,7 @@ use Rattle.diagram.specs.Combining.{combined}
 use Rattle.diagram.specs.Kinds.{either, union}
 use Rattle.diagram.specs.Rules.{entry, where_one}
 use Rattle.diagram.specs.Store.{Store, Outcome, full, done, mark}
-use Rattle.bench.specs.declared.full.TableFull.{TableFull}
+use Rattle.diagram.specs.declared.table.TableFull.{TableFull}
 use Rattle.bench.specs.declared.shelf.Draft.{Draft}
 use Rattle.bench.specs.declared.shelf.Lists.{Lists}
 

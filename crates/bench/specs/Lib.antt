@@ -1,4 +1,3 @@
-pub mod Told
 pub mod Building
 pub mod Refusals
 pub mod Shelves

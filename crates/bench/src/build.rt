@@ -1,23 +1,20 @@
 // Diagrams of targets and constraints. The order in which nodes are made is fixed, so that their numbers and the place
 // where a table gets full are exact.
 ghost use Rattle.std.specs.Prelude.{◌≡◌, ◌+◌, ◌-◌, ◌<◌, ◌≤◌, length};
+ghost use Rattle.diagram.specs.Building.{Builds};
 ghost use Rattle.diagram.specs.Held.{room_of, store_of};
 ghost use Rattle.diagram.specs.Store.{Grown, Later, made, node_of};
 ghost use Rattle.bench.specs.Building as building;
 ghost use Rattle.bench.specs.Building.{From, FromAll, ToldRow};
-ghost use Rattle.bench.specs.Told.{Told};
 
-use crate::full::TableFull;
-use diagram::{Diagrams, Node};
+use diagram::{Diagrams, Node, TableFull};
 
 // A reference for a node whose parts test later pairs.
 fn node(diagrams: &mut Diagrams, pair: u32, low: u32, high: u32) -> Result<u32, TableFull>
     requires small { pair < 48 }
     requires before_low { Later (store_of diagrams.old) pair low }
     requires before_high { Later (store_of diagrams.old) pair high }
-    ensures told { Told (made (room_of diagrams.old) (store_of diagrams.old) (node_of pair low high)) (store_of diagrams.new) result }
-    ensures room { room_of diagrams.new ≡ room_of diagrams.old }
-    ensures grown { Grown (store_of diagrams.old) (store_of diagrams.new) }
+    ensures { Builds (made (room_of diagrams.old) (store_of diagrams.old) (node_of pair low high)) diagrams.old diagrams.new result }
 {
     diagrams
         .make(Node { pair, low, high })
@@ -36,9 +33,7 @@ fn chain(
     requires small { end ≤ 48 }
     requires before_low { From (store_of diagrams.old) end low }
     requires before_high { From (store_of diagrams.old) end high }
-    ensures told { Told (building.chain (room_of diagrams.old) (store_of diagrams.old) first (end - first) low high) (store_of diagrams.new) result }
-    ensures room { room_of diagrams.new ≡ room_of diagrams.old }
-    ensures grown { Grown (store_of diagrams.old) (store_of diagrams.new) }
+    ensures { Builds (building.chain (room_of diagrams.old) (store_of diagrams.old) first (end - first) low high) diagrams.old diagrams.new result }
 {
     let mut r = low;
     for j in (first..end).rev() {
@@ -57,9 +52,7 @@ pub(crate) fn target(
     requires from { start ≤ pair }
     requires to { pair < start + count }
     requires small { start + count ≤ 48 }
-    ensures told { Told (building.target (room_of diagrams.old) (store_of diagrams.old) start count pair) (store_of diagrams.new) result }
-    ensures room { room_of diagrams.new ≡ room_of diagrams.old }
-    ensures grown { Grown (store_of diagrams.old) (store_of diagrams.new) }
+    ensures built { Builds (building.target (room_of diagrams.old) (store_of diagrams.old) start count pair) diagrams.old diagrams.new result }
     ensures means { building.IsTarget (store_of diagrams.new) start count pair result }
 {
     let after = chain(diagrams, pair + 1, start + count, 2, 0)?;
@@ -75,9 +68,7 @@ pub(crate) fn target(
 pub(crate) fn exclusion(diagrams: &mut Diagrams, first: u32, second: u32) -> Result<u32, TableFull>
     requires order { first < second }
     requires small { second < 48 }
-    ensures told { Told (building.exclusion (room_of diagrams.old) (store_of diagrams.old) first second) (store_of diagrams.new) result }
-    ensures room { room_of diagrams.new ≡ room_of diagrams.old }
-    ensures grown { Grown (store_of diagrams.old) (store_of diagrams.new) }
+    ensures built { Builds (building.exclusion (room_of diagrams.old) (store_of diagrams.old) first second) diagrams.old diagrams.new result }
     ensures means { building.IsExclusion (store_of diagrams.new) first second result }
 {
     let without = node(diagrams, second, 1, 0)?;
@@ -142,9 +133,7 @@ fn rows(
 ) -> Result<u32, TableFull>
     requires small { start + count ≤ 48 }
     requires later { FromAll (store_of diagrams.old) (start + count) count row }
-    ensures told { Told (building.rows (room_of diagrams.old) (store_of diagrams.old) start count row) (store_of diagrams.new) result }
-    ensures room { room_of diagrams.new ≡ room_of diagrams.old }
-    ensures grown { Grown (store_of diagrams.old) (store_of diagrams.new) }
+    ensures { Builds (building.rows (room_of diagrams.old) (store_of diagrams.old) start count row) diagrams.old diagrams.new result }
 {
     let mut row = row;
     for j in (start..start + count).rev() {
@@ -161,9 +150,7 @@ pub(crate) fn limited(
     limit: Limit,
 ) -> Result<u32, TableFull>
     requires small { start + count ≤ 48 }
-    ensures told { Told (building.limited (room_of diagrams.old) (store_of diagrams.old) start count limit) (store_of diagrams.new) result }
-    ensures room { room_of diagrams.new ≡ room_of diagrams.old }
-    ensures grown { Grown (store_of diagrams.old) (store_of diagrams.new) }
+    ensures built { Builds (building.limited (room_of diagrams.old) (store_of diagrams.old) start count limit) diagrams.old diagrams.new result }
     ensures means { building.IsLimit (store_of diagrams.new) start count limit result }
 {
     let row = leaves(limit);

@@ -4,7 +4,6 @@
 mod bench;
 mod build;
 mod fault;
-mod full;
 mod lists;
 mod shelf;
 mod steps;

@@ -3,10 +3,9 @@ ghost use Rattle.diagram.specs.Held.{room_of, store_of};
 ghost use Rattle.diagram.specs.Store.{Grown, mark};
 ghost use Rattle.bench.specs.Closing.{FillAfter, ToldLists, listing};
 
-use crate::full::TableFull;
 use crate::shelf::{Draft, Lists};
 use crate::steps::{close, combine};
-use diagram::{DecisionSets, Diagrams, Mark, Rule, Truth};
+use diagram::{DecisionSets, Diagrams, Mark, Rule, TableFull, Truth};
 
 // The set of a decision, 1 for deny, 2 for allow and 4 for not applicable, where the query is valid; else the empty set.
 const SETS: Rule = Rule::Two([0, 0, 0, 1, 2, 4, 0, 0, 0]);

@@ -20,6 +20,7 @@ pub use mark::Mark;
 pub use node::Node;
 pub use refusal::Refusal;
 pub use rule::Rule;
+pub use table::TableFull;
 pub use view::View;
 
 // References below this are leaves; reference 8 + k is node k.

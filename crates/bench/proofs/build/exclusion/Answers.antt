@@ -3,7 +3,7 @@ use Rattle.diagram.specs.Held.{room_of, store_of}
 use Rattle.diagram.proofs.Standing.{standing}
 use Rattle.diagram.proofs.Stands.{grown_trans}
 use Rattle.bench.specs.Building.{exclusion}
-use Rattle.bench.specs.Told.{Told}
+use Rattle.diagram.specs.Told.{Told}
 use Rattle.bench.proofs.Answering.{told_as, told_full}
 use Rattle.bench.proofs.Exclusions.{exclusion_means, no_second, second_later, then_first}
 use Rattle.bench.proofs.Yielding.{leaf_later}
@@ -22,7 +22,7 @@ returns-in_err-without c =
     let o = exclusion (room_of d) (store_of d) c.args.first c.args.second in
     let t = store_of c.node.new.diagrams in
     let told : Told o t r = told_full t o r c.from_residual.ensures.0 (no_second _ _ _ _ c.requires.order c.requires.small (standing d) second.told) in
-    record { told = told; room = second.room; grown = second.grown; means = exclusion_means _ _ _ _ c.requires.order c.requires.small (standing d) t r told }
+    record { built = record { told = told; room = second.room; grown = second.grown }; means = exclusion_means _ _ _ _ c.requires.order c.requires.small (standing d) t r told }
 
 pub node-requires-2 : goal.node-requires-2
 node-requires-2 c =
@@ -42,4 +42,4 @@ returns c =
     let o = exclusion (room_of d) (store_of d) c.args.first c.args.second in
     let t = store_of c.node-2.new.diagrams in
     let told : Told o t r = told_as t o _ r (then_first _ _ _ _ c.requires.order c.requires.small (standing d) second.told second.room) first.told in
-    record { told = told; room = first.room ∙ second.room; grown = grown_trans second.grown first.grown; means = exclusion_means _ _ _ _ c.requires.order c.requires.small (standing d) t r told }
+    record { built = record { told = told; room = first.room ∙ second.room; grown = grown_trans second.grown first.grown }; means = exclusion_means _ _ _ _ c.requires.order c.requires.small (standing d) t r told }

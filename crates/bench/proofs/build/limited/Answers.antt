@@ -1,7 +1,7 @@
 use Rattle.diagram.specs.Held.{room_of, store_of}
 use Rattle.diagram.proofs.Standing.{standing}
 use Rattle.bench.specs.Building.{limited}
-use Rattle.bench.specs.Told.{Told}
+use Rattle.diagram.specs.Told.{Told}
 use Rattle.bench.proofs.Answering.{told_as}
 use Rattle.bench.proofs.Counting.{leaves_later, from_leaves, limit_means}
 use Rattle.bench.proofs.build.limited.Goals as goal
@@ -19,4 +19,4 @@ returns c =
     let o = limited (room_of d) (store_of d) c.args.start c.args.count c.args.limit in
     let t = store_of c.rows.new.diagrams in
     let told : Told o t r = told_as t o _ r (from_leaves (room_of d) (store_of d) c.args.start c.args.count c.args.limit c.requires.small c.leaves-row.result c.leaves-row.ensures) built.told in
-    record { told = told; room = built.room; grown = built.grown; means = limit_means (room_of d) (store_of d) c.args.start c.args.count c.args.limit c.requires.small t r (standing d) told }
+    record { built = record { told = told; room = built.room; grown = built.grown }; means = limit_means (room_of d) (store_of d) c.args.start c.args.count c.args.limit c.requires.small t r (standing d) told }

@@ -4,7 +4,7 @@ use Rattle.diagram.specs.Held.{room_of, store_of}
 use Rattle.diagram.proofs.Standing.{standing}
 use Rattle.diagram.proofs.Stands.{grown_trans}
 use Rattle.bench.specs.Building.{target}
-use Rattle.bench.specs.Told.{Told}
+use Rattle.diagram.specs.Told.{Told}
 use Rattle.bench.proofs.Aims.{Aim, target_means, no_after, after_later, no_here, none_earlier, no_only, here_from, only_from, then_chain}
 use Rattle.bench.proofs.Answering.{told_as, told_full}
 use Rattle.bench.proofs.Yielding.{leaf_from, leaf_later}
@@ -32,7 +32,7 @@ returns-in_err-after c =
     let r = c.from_residual.result in
     let t = store_of c.chain.new.diagrams in
     let told : Told (target (room_of d) (store_of d) c.args.start c.args.count c.args.pair) t r = told_full t _ r c.from_residual.ensures.0 (no_after (room_of d) aim after.told) in
-    record { told = told; room = after.room; grown = after.grown; means = target_means (room_of d) aim t r told }
+    record { built = record { told = told; room = after.room; grown = after.grown }; means = target_means (room_of d) aim t r told }
 
 pub node-requires : goal.node-requires
 node-requires c =
@@ -53,7 +53,7 @@ returns-in_err-here c =
     let r = c.from_residual-in_err-here.result in
     let t = store_of c.node.new.diagrams in
     let told : Told (target (room_of d) (store_of d) c.args.start c.args.count c.args.pair) t r = told_full t _ r c.from_residual-in_err-here.ensures.0 (no_here (room_of d) aim after.told after.room here.told) in
-    record { told = told; room = here.room ∙ after.room; grown = grown_trans after.grown here.grown; means = target_means (room_of d) aim t r told }
+    record { built = record { told = told; room = here.room ∙ after.room; grown = grown_trans after.grown here.grown }; means = target_means (room_of d) aim t r told }
 
 pub returns-then-start-pair : goal.returns-then-start-pair
 returns-then-start-pair c =
@@ -63,7 +63,7 @@ returns-then-start-pair c =
     let here = c.in_ok-here.ensures in
     let t = store_of c.node.new.diagrams in
     let told = none_earlier (room_of d) aim after.told after.room here.told c.if-start-pair.true in
-    record { told = told; room = here.room ∙ after.room; grown = grown_trans after.grown here.grown; means = target_means (room_of d) aim t (Ok c.in_ok-here.here) told }
+    record { built = record { told = told; room = here.room ∙ after.room; grown = grown_trans after.grown here.grown }; means = target_means (room_of d) aim t (Ok c.in_ok-here.here) told }
 
 pub node-requires-2 : goal.node-requires-2
 node-requires-2 c =
@@ -81,7 +81,7 @@ returns-in_err-only c =
     let t = store_of c.node-2.new.diagrams in
     let told : Told (target (room_of d) (store_of d) c.args.start c.args.count c.args.pair) t r =
     told_full t _ r c.from_residual-in_err-only.ensures.0 (no_only (room_of d) aim after.told after.room here.told here.room c.if-start-pair.false only.told) in
-    record { told = told; room = only.room ∙ here.room ∙ after.room; grown = grown_trans after.grown (grown_trans here.grown only.grown); means = target_means (room_of d) aim t r told }
+    record { built = record { told = told; room = only.room ∙ here.room ∙ after.room; grown = grown_trans after.grown (grown_trans here.grown only.grown) }; means = target_means (room_of d) aim t r told }
 
 pub chain-requires-2 : goal.chain-requires-2
 chain-requires-2 c =
@@ -110,8 +110,6 @@ returns c =
     let told : Told (target (room_of d) (store_of d) c.args.start c.args.count c.args.pair) t r =
     told_as t _ _ r (then_chain (room_of d) aim after.told after.room here.told here.room c.if-start-pair.false only.told only.room) last.told in
     record {
-      told = told;
-      room = last.room ∙ only.room ∙ here.room ∙ after.room;
-      grown = grown_trans after.grown (grown_trans here.grown (grown_trans only.grown last.grown));
+      built = record { told = told; room = last.room ∙ only.room ∙ here.room ∙ after.room; grown = grown_trans after.grown (grown_trans here.grown (grown_trans only.grown last.grown)) };
       means = target_means (room_of d) aim t r told;
     }
