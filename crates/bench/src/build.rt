@@ -102,8 +102,8 @@ fn leaves(limit: Limit) -> [u32; PLACES]
     ensures { result ≡ building.leaves (building.is_met limit) 0 49 }
 {
     let mut row = [0; PLACES];
-    for c in 0..PLACES {
-        row[c] = if limit.met(c) { 1 } else { 0 };
+    for (seen, leaf) in row.iter_mut().enumerate() {
+        *leaf = u32::from(limit.met(seen));
     }
     row
 }
@@ -117,9 +117,9 @@ fn next_row(diagrams: &mut Diagrams, row: &mut [u32], pair: u32, n: usize) -> Re
     ensures room { room_of diagrams.new ≡ room_of diagrams.old }
     ensures grown { Grown (store_of diagrams.old) (store_of diagrams.new) }
 {
+    // an entry is replaced while the one after it is still read, so no iterator can lend them
     for c in 0..n {
-        let r = node(diagrams, pair, row[c], row[c + 1])?;
-        row[c] = r;
+        row[c] = node(diagrams, pair, row[c], row[c + 1])?;
     }
     Ok(())
 }

@@ -34,21 +34,21 @@ impl From<TableFault> for LoadFault {
     }
 }
 
-// Why the bench itself refuses a call.
-#[derive(Clone, Copy)]
+// Why the bench itself refuses a call, by its number.
+#[derive(Clone, Copy, Debug, PartialEq, Eq)]
 pub enum Reason {
     // the shelf number is above 3
-    NoShelf,
+    NoShelf = 1,
     // extend: the query is not valid there
-    NotValid,
+    NotValid = 11,
     // load: the shelf is taken
-    Taken,
+    Taken = 21,
     // any other call on an empty shelf
-    Empty,
+    Empty = 22,
     // extend, reach and root on a draft
-    NotClosed,
+    NotClosed = 23,
     // close on a closed shelf
-    AlreadyClosed,
+    AlreadyClosed = 24,
 }
 
 // Why a call was refused: a lower fault whole, or a reason of the bench's own; and the shelf that the call named.
@@ -102,14 +102,7 @@ impl Reason {
     pub fn number(self) -> u8
         ensures { result ≡ refusals.reason_number self }
     {
-        match self {
-            Reason::NoShelf => 1,
-            Reason::NotValid => 11,
-            Reason::Taken => 21,
-            Reason::Empty => 22,
-            Reason::NotClosed => 23,
-            Reason::AlreadyClosed => 24,
-        }
+        self as u8
     }
 }
 
@@ -147,8 +140,7 @@ impl Fault {
         ensures { result ≡ refusals.shelf self }
     {
         match self {
-            Fault::Below { shelf, .. } => shelf,
-            Fault::Own { shelf, .. } => shelf,
+            Fault::Below { shelf, .. } | Fault::Own { shelf, .. } => shelf,
         }
     }
 }

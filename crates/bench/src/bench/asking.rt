@@ -33,7 +33,7 @@ fn decision(leaf: u32) -> Decision
     }
 }
 
-impl<'m> Bench<'m> {
+impl Bench<'_> {
     // What stands on the shelf, or a refusal where there is no such shelf.
     pub(super) fn at(&self, shelf: u8) -> Result<Shelf, Fault>
         ensures { result ≡ shelf_at (state_of self.now) shelf }

@@ -20,7 +20,7 @@ fn full(shelf: u8, place: usize) -> Fault
     }
 }
 
-impl<'m> Bench<'m> {
+impl Bench<'_> {
     // The policy on the shelf, where it is not closed yet.
     fn draft(&self, shelf: u8) -> Result<Draft, Fault>
         ensures is { result ≡ draft_at (state_of self.now) shelf }

@@ -8,15 +8,15 @@ use Rattle.bench.proofs.build.next_row.Goals as goal
 pub loop-c-init : goal.loop-c-init
 loop-c-init c = row_start _ _ _ _ _ c.requires.later
 
-pub returns-in_err-r : goal.returns-in_err-r
-returns-in_err-r c =
+pub returns-in_err-row : goal.returns-in_err-row
+returns-in_err-row c =
     let turn = c.loop-c.invariant in
-    let made = c.in_err-r.ensures in
+    let made = c.in_err-row.ensures in
     record { told = told_no_row _ _ _ c.from_residual.result c.from_residual.ensures.0 (row_full turn c.loop-c-test.true made.told); room = made.room ∙ turn.same; grown = grown_trans turn.grown made.grown }
 
 pub loop-c-preserved : goal.loop-c-preserved
 loop-c-preserved c =
-    let made = c.in_ok-r.ensures in
+    let made = c.in_ok-row.ensures in
     row_next c.loop-c.invariant _ _ _ c.loop-c-test.true c.requires.small (standing c.loop-c.diagrams) made.told made.room
 
 pub returns : goal.returns
