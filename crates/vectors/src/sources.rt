@@ -70,10 +70,9 @@ fn a_pile_four_deep(rt: HostRuntime) {
 // A second reading of the bytes: entries from the last to the first, so that the first of a pair stays.
 fn read_backwards(bytes: &[u8]) -> [Option<u8>; 48] {
     let mut labels = [None; 48];
-    for entry in (0..bytes.len() / 2).rev() {
-        let pair = bytes[2 * entry] as usize;
-        if pair < 48 {
-            labels[pair] = Some(bytes[2 * entry + 1]);
+    for &[pair, label] in bytes.as_chunks::<2>().0.iter().rev() {
+        if let Some(first) = labels.get_mut(pair as usize) {
+            *first = Some(label);
         }
     }
     labels
@@ -92,9 +91,9 @@ fn random_bytes(state: &mut u32) -> [u8; 64] {
 fn reads_alike(rt: &impl Abort, bytes: &[u8]) {
     let slip = Slip::of(bytes);
     let labels = read_backwards(bytes);
-    for pair in 0..48u8 {
-        assert_eq!(rt; slip.label(pair), labels[pair as usize]);
-        assert_eq!(rt; slip.tells(pair), labels[pair as usize].is_some());
+    for (pair, label) in (0..48u8).zip(labels) {
+        assert_eq!(rt; slip.label(pair), label);
+        assert_eq!(rt; slip.tells(pair), label.is_some());
     }
     assert_eq!(rt; slip.label(63), None);
 }
