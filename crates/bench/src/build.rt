@@ -109,6 +109,7 @@ fn leaves(limit: Limit) -> [u32; PLACES]
 }
 
 // Replaces the first n entries of a row, each by the node of the pair over itself and the entry after it.
+#[tactic(auto, using(diagram::proofs::Stands::grown_trans))]
 fn next_row(diagrams: &mut Diagrams, row: &mut [u32], pair: u32, n: usize) -> Result<(), TableFull>
     requires small { pair < 48 }
     requires long { n < length row.old }

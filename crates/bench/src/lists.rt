@@ -11,6 +11,7 @@ use diagram::{DecisionSets, Diagrams, Mark, Rule, TableFull, Truth};
 const SETS: Rule = Rule::Two([0, 0, 0, 1, 2, 4, 0, 0, 0]);
 
 // Builds what a closed shelf lists and reaches.
+#[tactic(auto, using(diagram::proofs::Stands::grown_trans))]
 fn build(diagrams: &mut Diagrams, draft: Draft) -> Result<Lists, TableFull>
     requires valid { draft.valid < mark (store_of diagrams.old) }
     requires decides { draft.decides < mark (store_of diagrams.old) }

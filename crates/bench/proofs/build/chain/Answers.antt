@@ -2,16 +2,11 @@ use Rattle.std.proofs.Common.{◌∙◌, arith}
 use Rattle.diagram.proofs.Standing.{standing}
 use Rattle.diagram.proofs.Stands.{grown_trans}
 use Rattle.bench.proofs.Answering.{told_full}
-use Rattle.bench.proofs.Chaining.{turn_start, turn_low, turn_high, turn_full, turn_next, turn_end}
+use Rattle.bench.proofs.Chaining.{turn_start, turn_full, turn_next, turn_end}
 use Rattle.bench.proofs.build.chain.Goals as goal
 
 pub loop-j-init : goal.loop-j-init
 loop-j-init c = turn_start _ _ _ _ _ _ c.requires.order c.requires.before_low c.requires.before_high
-
-pub node-requires : goal.node-requires
-node-requires c =
-    let turn = c.loop-j.invariant in
-    record { small = omega (arith, c.requires.small, c.loop-j.auto.j); before_low = turn_low turn c.loop-j-test.true; before_high = turn_high turn c.loop-j-test.true }
 
 pub returns-in_err-r : goal.returns-in_err-r
 returns-in_err-r c =

@@ -6,10 +6,10 @@ use Rattle.bench.proofs.Answering.{told_as}
 use Rattle.bench.proofs.Counting.{leaves_later, from_leaves, limit_means}
 use Rattle.bench.proofs.build.limited.Goals as goal
 
-pub rows-requires : goal.rows-requires
-rows-requires c =
+pub rows-requires-clause-later : goal.rows-requires-clause-later
+rows-requires-clause-later c =
     let d = c.args.diagrams.now in
-    record { small = c.requires.small; later = leaves_later (room_of d) (store_of d) c.args.start c.args.count c.args.limit c.requires.small c.leaves-row.result c.leaves-row.ensures }
+    leaves_later (room_of d) (store_of d) c.args.start c.args.count c.args.limit c.requires.small c.leaves-row.result c.leaves-row.ensures
 
 pub returns : goal.returns
 returns c =

@@ -1,10 +1,9 @@
-use Rattle.std.proofs.Common.{ℕ, ◌<◌, get_or, sym, ap, ◌∙◌, subst}
+use Rattle.std.proofs.Common.{ℕ, ◌<◌, get_or, sym, ◌∙◌, subst}
 use Rattle.diagram.specs.Store.{mark}
-use Rattle.bench.specs.Closing.{lists_done}
 use Rattle.bench.specs.Shelves.{reference}
 use Rattle.bench.specs.State.{state_of}
 use Rattle.bench.specs.declared.shelf.Shelf.TheVariants as shelf
-use Rattle.bench.proofs.Shuts.{all_back, none_back, closes_full, closes_done, closed_fits}
+use Rattle.bench.proofs.Shuts.{all_back, none_back, closes_full, closed_fits}
 use Rattle.bench.proofs.bench.Bench.close.Goals as goal
 
 pub invariant_of-self : goal.invariant_of-self
@@ -15,13 +14,6 @@ invariant_of-self c =
     let left = none_back c.roll_back.ensures.is built.fill in
     let fits = closed_fits old.shelves _ _ _ c.args.shelf _ c.in-Ok.lists left (record { stand = old.stand; pairs = old.pairs }) built.grown stood.0 stood.1 stood.2 built.told.1 built.told.2 in
     record { stand = fits.stand; pairs = fits.pairs }
-
-pub returns-in-Ok : goal.returns-in-Ok
-returns-in-Ok c =
-    let built = c.in-Ok.ensures in
-    let left = none_back c.roll_back.ensures.is built.fill in
-    let room = c.roll_back.ensures.room ∙ built.room in
-    closes_done (state_of c.args.self.now) c.args.shelf _ (sym c.in_ok-draft.was ∙ c.draft.ensures.is) c.in-Ok.lists _ _ room (built.told.0 ∙ ap (λ t. lists_done t c.in-Ok.lists.lists c.in-Ok.lists.reaches) (sym left))
 
 pub invariant_of-self-in-Err : goal.invariant_of-self-in-Err
 invariant_of-self-in-Err c =
