@@ -92,7 +92,7 @@ fn operands(
 {
     match taken {
         Command::Attribute { name, count } => declared(heap, text, name, count),
-        Command::Operator { digits } => own(heap, text, reader, digits),
+        Command::Operator { row } => own(heap, text, reader, &row.entries),
         Command::Exclusion { first, second } => exclusion(heap, text, reader, first, second),
         Command::AtMost {
             attribute,

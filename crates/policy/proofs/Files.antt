@@ -1,5 +1,6 @@
 -- The file that commands stand for: its declarations hang together, and its stack ends with one policy.
 use Rattle.std.proofs.Common.{◌≡◌, ℕ, zero, suc, ◌+◌, ◌-◌, ◌<◌, ◌≤◌, Bool, true, false, cond, ltb, leb, List, [], ◌∷◌, ◌++◌, get_or, Some, None, unwrap_or, sym, refl, ap, subst, arith}
+use Rattle.std.specs.List.{list_all}
 use Rattle.std.proofs.lemmas.Bool.{and_parts, ltb-true, ltb-false, false≢true}
 use Rattle.policy.specs.declared.kind.Kind.{Kind}
 use Rattle.policy.specs.declared.kind.Kind.TheVariants as kind
@@ -9,7 +10,7 @@ use Rattle.policy.specs.Commands.{Command, attribute, operator, restrict, act, R
 use Rattle.policy.specs.Reading.{Progress, Step, refused, took, step, ended, before, goes_on, scan, constraint, constrains, constraints_of, Item, as_target, as_policy, attribute_with, changes, combines, guards, does, puts, stack_of}
 use Rattle.policy.specs.Laws.{Has}
 use Rattle.policy.proofs.Scans.{Takes, step_takes}
-use Rattle.policy.proofs.Digits.{each, each_at, each_push, standard_digits}
+use Rattle.policy.proofs.Digits.{digits_at, digits_push, standard_digits}
 use Rattle.policy.proofs.Dependence.{TargetOver, pairs, alters, joins, PolicyOver, constant, changes_over, combines_over, guards_over, ConstraintOver, excludes, bounds_above, bounds_below, AllOver, no_more, and_so}
 
 -- ---- a reading that comes to the end, command by command
@@ -79,7 +80,6 @@ pub record AttributeOver (n i : ℕ) (a : Attribute) : Type 0 where
   pub has : Has a i
 
 chained_with : {s e : ℕ} {ats : List Attribute} (i : ℕ) → Chained s ats e → s ≤ i → i < e → AttributeOver e i (unwrap_or (attribute_with ats i) nobody)
-unfolding attribute_with
 chained_with i none h w = absurd (omega arith)
 chained_with {e = e} i (link {a = a} {ats = ats} c) h w = by (ltb i (a.start + a.count)) refl (chained_with i c)
   where
@@ -90,11 +90,11 @@ chained_with {e = e} i (link {a = a} {ats = ats} c) h w = by (ltb i (a.start + a
 
 pub record Sound (x : Context) : Type 0 where
   pub chained : Chained 0 x.attributes x.pairs
-  pub digits : each are_digits x.operators ≡ true
+  pub digits : list_all are_digits x.operators ≡ true
 
 pub declares_sound : (c : Command) (x : Context) → allowed x c ≡ true → Sound x → Sound (declares c x)
 declares_sound (attribute name count) x a s = record { chained = chained_push name count s.chained; digits = s.digits }
-declares_sound (operator ds) x a s = record { chained = s.chained; digits = each_push x.operators ds s.digits (and_parts _ _ a).0 }
+declares_sound (operator ds) x a s = record { chained = s.chained; digits = digits_push x.operators ds s.digits (and_parts _ _ a).0 }
 declares_sound (restrict r) x a s = s
 declares_sound (act b) x a s = s
 
@@ -103,8 +103,8 @@ unfolding digits_of
 operator_digits x code s = by (leb 0x20 code)
   where
     by : (b : Bool) → are_digits (cond b (get_or x.operators (code - 0x20) []) (get_or standard (code - 0x10) [])) ≡ true
-    by true = each_at x.operators (code - 0x20) s.digits
-    by false = each_at standard (code - 0x10) standard_digits
+    by true = digits_at x.operators (code - 0x20) s.digits
+    by false = digits_at standard (code - 0x10) standard_digits
 
 -- ---- the stack
 

@@ -8,7 +8,6 @@ use Rattle.policy.specs.Policies.{Attribute, pair, altered, File, present_from, 
 use Rattle.policy.specs.Extended.{Extended, valid_with, is_listed}
 use Rattle.policy.specs.Reading.{Progress, Stop, stopped, ended, scan_file, unopened, reads, read_as, file_of, well, commands_of, stack_of, as_policy, top}
 use Rattle.policy.specs.Laws.{Has, Missing, Lawful, OnePolicy, LawfullyRead}
-use Rattle.policy.proofs.Digits.{each}
 use Rattle.policy.proofs.Dependence.{PolicyOver, AllOver, decides_same, meets_all_same, decides_three, named}
 use Rattle.policy.proofs.Enumeration.{finds, tried, below_of, below_agrees, just_below}
 use Rattle.policy.proofs.Files.{ReadsTo, scan_reads_to, ends_with_one, none, empty, Built, builds, Single, single}
@@ -79,7 +78,6 @@ module _ (file : List ℕ) (l : Progress) (e : (scan_file file).stop ≡ ended l
   reading = scan_reads_to (suc (length file)) unopened file 5 l e
 
   built : Built l.context.pairs unopened.context [] (commands_of file) l
-  unfolding each
   built = builds l.context.pairs [] reading (omega arith) (record { chained = none; digits = refl }) empty
 
   one : Single l.context.pairs (stack_of unopened.context (commands_of file) [])

@@ -1,6 +1,5 @@
-pub mod Stacks
-pub mod Spelling
 pub mod Declared
+pub mod Spelling
 pub mod Steps
 pub mod Scans
 pub mod Readers

@@ -1,5 +1,6 @@
 -- The commands of a policy file: their bytes, their operands, and what each one asks for.
 use Rattle.std.specs.Prelude.{ℕ, ◌+◌, Bool, true, false, cond, not, ◌&&◌, ◌||◌, List, [], ◌∷◌, ◌++◌, length, take, drop, Some, None, Option, ◌==◌, nat_le, nat_lt, slice_index, slice_index_or}
+use Rattle.std.specs.List.{list_all, list_any}
 use Rattle.std.specs.Str.{bytes_eq}
 use Rattle.policy.specs.declared.decision.Decision.{Decision}
 use Rattle.policy.specs.declared.decision.Decision.TheVariants as decision
@@ -104,20 +105,24 @@ byte file p = slice_index file p
 abbrev pub bytes_from : List ℕ → ℕ → ℕ → List ℕ
 bytes_from file from size = take size (drop from file)
 
+-- the command with this opcode and these operands
+abbrev pub decoded : Opcode → List ℕ → Command
+decoded Attribute bs = attribute (take 8 bs) (slice_index bs 8)
+decoded Operator bs = operator bs
+decoded Exclusion bs = restrict (exclusion (slice_index bs 0) (slice_index bs 1))
+decoded AtMost bs = restrict (most (slice_index bs 0) (slice_index bs 1))
+decoded AtLeast bs = restrict (least (slice_index bs 0) (slice_index bs 1))
+decoded Pair bs = act (push_pair (slice_index bs 0))
+decoded Allow bs = act (push decision.Allow)
+decoded Deny bs = act (push decision.Deny)
+decoded Change bs = act (change (slice_index bs 0))
+decoded Combine bs = act (combine (slice_index bs 0))
+decoded Guard bs = act guard
+decoded End bs = act end
+
 -- the command at p, once its operands are there
 abbrev pub command : List ℕ → ℕ → Opcode → Command
-command file p Attribute = attribute (bytes_from file (p + 1) 8) (byte file (p + 9))
-command file p Operator = operator (bytes_from file (p + 1) 9)
-command file p Exclusion = restrict (exclusion (byte file (p + 1)) (byte file (p + 2)))
-command file p AtMost = restrict (most (byte file (p + 1)) (byte file (p + 2)))
-command file p AtLeast = restrict (least (byte file (p + 1)) (byte file (p + 2)))
-command file p Pair = act (push_pair (byte file (p + 1)))
-command file p Allow = act (push decision.Allow)
-command file p Deny = act (push decision.Deny)
-command file p Change = act (change (byte file (p + 1)))
-command file p Combine = act (combine (byte file (p + 1)))
-command file p Guard = act guard
-command file p End = act end
+command file p o = decoded o (bytes_from file (p + 1) (size o))
 
 -- ---- what the declarations so far say
 
@@ -146,9 +151,8 @@ abbrev pub printable : ℕ → Bool
 printable b = nat_le 0x21 b && nat_le b 0x7E
 
 -- nothing but 00
-unfoldable pub zeros : List ℕ → Bool
-zeros [] = true
-zeros (b ∷ bs) = b == 0 && zeros bs
+abbrev pub zeros : List ℕ → Bool
+zeros bs = list_all (λ b. b == 0) bs
 
 -- printable bytes, and then 00 to the end
 unfoldable pub padded : List ℕ → Bool
@@ -160,14 +164,12 @@ unfoldable pub is_name : List ℕ → Bool
 is_name bs = not (slice_index bs 0 == 0) && padded bs
 
 -- no attribute has this name yet
-unfoldable pub fresh : List ℕ → List p.Attribute → Bool
-fresh name [] = true
-fresh name (a ∷ ats) = not (bytes_eq a.name name) && fresh name ats
+abbrev pub fresh : List ℕ → List p.Attribute → Bool
+fresh name ats = not (list_any (λ a. bytes_eq a.name name) ats)
 
 -- 0, 1 or 2
-unfoldable pub are_digits : List ℕ → Bool
-are_digits [] = true
-are_digits (d ∷ ds) = nat_le d 2 && are_digits ds
+abbrev pub are_digits : List ℕ → Bool
+are_digits ds = list_all (λ d. nat_le d 2) ds
 
 -- what stands where a number has no attribute
 abbrev pub nobody : p.Attribute

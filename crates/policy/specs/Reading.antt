@@ -3,6 +3,7 @@
 -- A file is read command by command. `step` has all checks of a command in their order; `scan` goes on to the end or
 -- to the first refusal; `reads` makes a File of the commands.
 use Rattle.std.specs.Prelude.{ℕ, zero, suc, ◌+◌, cond, not, ◌&&◌, List, [], ◌∷◌, length, Some, None, Option, ◌==◌, nat_le, nat_lt, slice_index_or}
+use Rattle.std.specs.List.{find}
 use Rattle.std.specs.Option.{unwrap_or}
 use Rattle.policy.specs.declared.decision.Decision.TheVariants.{NotApplicable}
 use Rattle.policy.specs.declared.opcode.Opcode.{Opcode}
@@ -138,9 +139,8 @@ pub data Item : Type 0 where
   as_policy : p.Policy → Item
 
 -- the attribute that has the pair i: attributes have their pairs one after the other, from 0 on
-unfoldable pub attribute_with : List p.Attribute → ℕ → Option p.Attribute
-attribute_with [] i = None
-attribute_with (a ∷ ats) i = cond (nat_lt i (a.start + a.count)) (Some a) (attribute_with ats i)
+abbrev pub attribute_with : List p.Attribute → ℕ → Option p.Attribute
+attribute_with ats i = find (λ a. nat_lt i (a.start + a.count)) ats
 
 -- the target of the pair i
 abbrev pub target_of : List p.Attribute → ℕ → p.Target

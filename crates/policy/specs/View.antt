@@ -1,27 +1,29 @@
 -- What the program's types stand for, in the words of the format.
-use Rattle.std.specs.Prelude.{◌≡◌, ℕ, zero, suc, ◌+◌, ◌-◌, ◌≤◌, true, false, cond, ◌||◌, List, [], ◌∷◌, map, length, take, Some, None, Ok, Err, Option, Result, slice_index_or}
+use Rattle.std.specs.Prelude.{◌≡◌, ℕ, suc, ◌-◌, ◌<◌, ◌≤◌, true, false, cond, ◌||◌, List, [], ◌∷◌, map, reverse, length, drop, Some, None, Ok, Err, Option, Result, slice_index_or}
 use Rattle.policy.specs.declared.command.Attribute.{Attribute}
 use Rattle.policy.specs.declared.command.Command.{Command}
 use Rattle.policy.specs.declared.commands.Commands.{Commands}
 use Rattle.policy.specs.declared.fault.ReadFault.{ReadFault}
-use Rattle.policy.specs.declared.opcode.Opcode.{Opcode}
-use Rattle.policy.specs.declared.reader.Declaration.{Declaration}
+use Rattle.policy.specs.declared.encoded.Encoded.{Encoded}
+use Rattle.policy.specs.declared.reader.steps.Checked.{Checked}
 use Rattle.policy.specs.declared.reader.Reader.{Reader}
 use Rattle.policy.specs.declared.command.Command.TheVariants as code
 use Rattle.policy.specs.declared.kind.Kind.{Kind}
-use Rattle.policy.specs.declared.kind.Kind.TheVariants.{Target}
 use Rattle.policy.specs.declared.kinds.Kinds.{Kinds}
+use Rattle.policy.specs.declared.kinds.Effect.{Effect}
+use Rattle.policy.specs.declared.kinds.Effect.TheVariants.{Keep, Push, Join}
 use Rattle.policy.specs.declared.operator.Row.{Row}
 use Rattle.policy.specs.Values.{Digits, standard, is_standard, is_own, digits_of}
 use Rattle.policy.specs.Policies as p
 use Rattle.policy.specs.Commands as c
 use Rattle.policy.specs.Reading.{Progress, Step, refused, took, step, command_step, checked, Scan, scan, Reading, fault, well}
+use Rattle.policy.specs.Rows.{tables}
 use Rattle.policy.specs.Refusals.{number, place as fault_place}
 
 -- the command that a value of the code stands for
 abbrev pub command : Command → c.Command
 command (code.Attribute name count) = c.attribute name.now count
-command (code.Operator digits) = c.operator digits.now
+command (code.Operator row) = c.operator row.entries
 command (code.Exclusion first second) = c.restrict (c.exclusion first second)
 command (code.AtMost attribute limit) = c.restrict (c.most attribute limit)
 command (code.AtLeast attribute limit) = c.restrict (c.least attribute limit)
@@ -32,14 +34,15 @@ command (code.Combine code) = c.act (c.combine code)
 command code.Guard = c.act c.guard
 command code.End = c.act c.end
 
--- the first n of some kinds, the last one first
-abbrev pub stacked : List Kind → ℕ → List Kind
-stacked ks zero = []
-stacked ks (suc n) = slice_index_or ks n Target ∷ stacked ks n
-
 -- the kinds on the stack, the top first
 abbrev pub stack : Kinds → List Kind
-stack k = stacked k.items k.depth
+stack k = reverse k.items.items
+
+-- the kinds after what a command does
+abbrev pub stack_after : List Kind → Effect → List Kind
+stack_after ks Keep = ks
+stack_after ks (Push k) = k ∷ ks
+stack_after ks (Join k) = k ∷ drop 2 ks
 
 -- the row of a standard code, and none for any other code
 abbrev pub StandardRow : Option Row → ℕ → Type 0
@@ -56,22 +59,13 @@ bytes r = r.file.now
 abbrev pub place : Reader → ℕ
 place r = r.place
 
--- the attribute of a declaration; its name stands in the file
-abbrev pub declared_attribute : List ℕ → Declaration → p.Attribute
-declared_attribute file d = record { name = c.bytes_from file d.name 8; start = d.start; count = d.count }
-
--- the digits of an own operator; they stand in the file
-abbrev pub own_digits : List ℕ → ℕ → Digits
-own_digits file from = c.bytes_from file from 9
+-- the attribute that a value of the code stands for
+abbrev pub attribute : Attribute → p.Attribute
+attribute a = record { name = a.name.now; start = a.start; count = a.count }
 
 -- what a reader has met of declarations
 abbrev pub context : Reader → c.Context
-context r =
-    record {
-      attributes = map (declared_attribute (bytes r)) (take r.declared r.attributes);
-      pairs = r.pairs;
-      operators = map (own_digits (bytes r)) (take r.operators r.own);
-    }
+context r = record { attributes = map attribute r.attributes.items; pairs = r.pairs; operators = tables r.operators.items }
 
 -- how far a reader is
 abbrev pub progress : Reader → Progress
@@ -90,53 +84,62 @@ next_step r = step (progress r) (bytes r) (place r)
 abbrev pub next_command : Reader → Step
 next_command r = command_step (progress r) (bytes r) (place r)
 
--- the file is not too long and has the opening, so that the next step is that of the command; or it is this refusal
+-- the file is not too long and has the opening, so that the next step is that of the command
 pub record Opened (r : Reader) : Type 0 where
   pub short : length (bytes r) ≤ 65535
   pub within : place r ≤ length (bytes r)
   pub is : next_step r ≡ next_command r
 
+-- the next step is this refusal
+abbrev pub Refuses : ReadFault → Reader → Type 0
+Refuses f r = next_step r ≡ refused (number f) (fault_place f)
+
 -- the opening is in order, or refused so
 abbrev pub Opens : Result (Unit {0}) ReadFault → Reader → Type 0
 Opens (Ok u) r = Opened r
-Opens (Err f) r = next_step r ≡ refused (number f) (fault_place f)
+Opens (Err f) r = Refuses f r
 
--- the operands of such a command are there
-abbrev pub Room : Opcode → Reader → Type 0
-Room o r = place r + 1 + c.size o ≤ length (bytes r)
+-- the checks of a command that are left once its operands are there
+abbrev pub checks_left : Reader → Encoded → c.Command → Step
+checks_left r e x = checked (progress r) (bytes r) e.place e.opcode x
 
--- a command begins with this opcode, and its operands are there; the checks of them are left
-pub record Begun (o : Opcode) (r : Reader) : Type 0 where
-  pub room : Room o r
-  pub is : next_command r ≡ checked (progress r) (bytes r) (place r) o (c.command (bytes r) (place r) o)
+-- a command of the file begins so, and its operands are there
+pub record Begun (e : Encoded) (r : Reader) : Type 0 where
+  pub short : length (bytes r) ≤ 65535
+  pub within : e.next ≤ length (bytes r)
+  pub is : next_step r ≡ checks_left r e (c.decoded e.opcode e.operands.now)
 
 -- a command begins so, or is refused so
-abbrev pub Begins : Result Opcode ReadFault → Reader → Type 0
-Begins (Ok o) r = Begun o r
-Begins (Err f) r = next_command r ≡ refused (number f) (fault_place f)
+abbrev pub Begins : Result Encoded ReadFault → Reader → Type 0
+Begins (Ok e) r = Begun e r
+Begins (Err f) r = Refuses f r
 
--- what a reader knows after a command, with these kinds on the stack
-abbrev pub after : Reader → Opcode → c.Command → Kinds → Progress
-after r o x ks = record { part = c.part o; context = c.declares x (context r); kinds = stack ks }
+-- what a reader knows after a command of this part that does this to the stack
+abbrev pub after : Reader → ℕ → c.Command → Effect → Progress
+after r part x e = record { part = part; context = c.declares x (context r); kinds = stack_after (stack r.kinds) e }
 
--- the command is in order, and leaves these kinds
-pub record Settled (o : Opcode) (x : c.Command) (ks : Kinds) (r : Reader) : Type 0 where
+-- the operands and the stack allow the command, which does this to the stack
+pub record Settled (x : c.Command) (e : Effect) (r : Reader) : Type 0 where
   pub allows : c.allowed (context r) x ≡ true
-  pub few : ks.depth ≤ 16
-  pub is : checked (progress r) (bytes r) (place r) o x ≡ took x (after r o x ks) (place r + 1 + c.size o)
+  pub few : length (stack_after (stack r.kinds) e) ≤ 16
 
--- the checks pass with these kinds, or refuse so
-abbrev pub Settles : Opcode → c.Command → Result Kinds ReadFault → Reader → Type 0
-Settles o x (Ok ks) r = Settled o x ks r
-Settles o x (Err f) r = checked (progress r) (bytes r) (place r) o x ≡ refused (number f) (fault_place f)
+-- the checks that are left pass with this effect on the stack, or refuse so
+abbrev pub Settles : Encoded → c.Command → Result Effect ReadFault → Reader → Type 0
+Settles y x (Ok e) r = Settled x e r × (checks_left r y x ≡ took x (after r (c.part y.opcode) x e) y.next)
+Settles y x (Err f) r = checks_left r y x ≡ refused (number f) (fault_place f)
 
--- a command was declared, and nothing else has changed
-pub record Declares (x : c.Command) (old new : Reader) : Type 0 where
-  pub context : context new ≡ c.declares x (context old)
-  pub bytes : bytes new ≡ bytes old
-  pub place : place new ≡ place old
-  pub part : new.part ≡ old.part
-  pub kinds : new.kinds ≡ old.kinds
+-- a command is in order: the next step takes it
+pub record InOrder (x : Checked) (r : Reader) : Type 0 where
+  pub short : length (bytes r) ≤ 65535
+  pub within : x.next ≤ length (bytes r)
+  pub later : 0 < x.part
+  pub settled : Settled (command x.command) x.effect r
+  pub is : next_step r ≡ took (command x.command) (after r x.part (command x.command) x.effect) x.next
+
+-- all checks of the next command pass so, or refuse so
+abbrev pub Checks : Result Checked ReadFault → Reader → Type 0
+Checks (Ok x) r = InOrder x r
+Checks (Err f) r = Refuses f r
 
 -- a refusal leaves the reader as it was
 abbrev pub UnlessTaken : Result Command ReadFault → Reader → Reader → Type 0
@@ -148,10 +151,6 @@ abbrev pub ahead : Reader → Scan
 ahead r = scan (suc (length (bytes r))) (progress r) (bytes r) (place r)
 
 -- ---- what was declared
-
--- the attribute that a value of the code stands for
-abbrev pub attribute : Attribute → p.Attribute
-attribute a = record { name = a.name.now; start = a.start; count = a.count }
 
 -- the operator of a code, and none where there is no such operator
 abbrev pub RowOf : Option Row → List Digits → ℕ → Type 0

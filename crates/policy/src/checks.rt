@@ -1,6 +1,7 @@
 // The checks of the opening, of a name and of nine digits.
-ghost use Rattle.std.specs.Prelude.{◌≡◌};
-ghost use Rattle.policy.specs.Commands.{is_name, are_digits};
+ghost use Rattle.std.specs.Prelude.{◌≡◌, ◌≤◌, length};
+ghost use Rattle.std.specs.List.{prefix_len};
+ghost use Rattle.policy.specs.Commands.{is_name, are_digits, printable, zeros};
 ghost use Rattle.policy.specs.Reading.{opening, differs};
 
 // What every policy file begins with.
@@ -24,32 +25,35 @@ const FIRST_PRINTABLE: u8 = 0x21;
 // The last one.
 const LAST_PRINTABLE: u8 = 0x7e;
 
+// How many of these bytes are printable, up to the first that is not.
+fn letters(bytes: &[u8]) -> usize
+    ensures is { result ≡ prefix_len printable bytes.now }
+    ensures within { result ≤ length bytes.now }
+{
+    bytes
+        .iter()
+        .take_while(|byte| **byte >= FIRST_PRINTABLE && **byte <= LAST_PRINTABLE)
+        .count()
+}
+
+// Whether each of these is 00.
+fn are_zeros(bytes: &[u8]) -> bool
+    ensures { result ≡ zeros bytes.now }
+{
+    bytes.iter().all(|byte| *byte == 0)
+}
+
 // Whether these are printable bytes, at least one, and then 00.
 pub(crate) fn is_name(name: &[u8]) -> bool
     ensures { result ≡ is_name name.now }
 {
-    let mut ended = false;
-    for (i, byte) in name.iter().enumerate() {
-        if *byte == 0 {
-            if i == 0 {
-                return false;
-            }
-            ended = true;
-        } else if ended || *byte < FIRST_PRINTABLE || *byte > LAST_PRINTABLE {
-            return false;
-        }
-    }
-    name.len() > 0
+    let letters = letters(name);
+    letters > 0 && are_zeros(&name[letters..])
 }
 
 // Whether each of these is 0, 1 or 2.
 pub(crate) fn are_digits(digits: &[u8]) -> bool
     ensures { result ≡ are_digits digits.now }
 {
-    for digit in digits {
-        if *digit > 2 {
-            return false;
-        }
-    }
-    true
+    digits.iter().all(|digit| *digit <= 2)
 }

@@ -2,15 +2,15 @@ ghost use Rattle.std.specs.Prelude.{◌≡◌};
 ghost use Rattle.policy.specs.Commands as commands;
 ghost use Rattle.policy.specs.View.{command};
 
-use crate::Decision;
+use crate::{Decision, Row};
 
-// A command with its operands, which are parts of the file.
-#[derive(Clone, Copy)]
+// A command with its operands; the name of an attribute is a part of the file.
+#[derive(Clone, Copy, Debug, PartialEq, Eq)]
 pub enum Command<'f> {
     // a name of eight bytes, and how many values the attribute has
     Attribute { name: &'f [u8], count: u8 },
     // an own operator by its nine digits
-    Operator { digits: &'f [u8] },
+    Operator { row: Row },
     // two pairs that never hold together
     Exclusion { first: u8, second: u8 },
     AtMost { attribute: u8, limit: u8 },
@@ -32,15 +32,12 @@ impl Command<'_> {
     pub fn is_end(self) -> bool
         ensures { result ≡ commands.is_end (command self.entry) }
     {
-        match self {
-            Command::End => true,
-            _ => false,
-        }
+        matches!(self, Command::End)
     }
 }
 
 // An attribute that a file declares: its values are the pairs from `start` on.
-#[derive(Clone, Copy)]
+#[derive(Clone, Copy, Debug, Default, PartialEq, Eq)]
 pub struct Attribute<'f> {
     pub name: &'f [u8],
     pub start: u8,

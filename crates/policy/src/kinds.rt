@@ -1,17 +1,29 @@
 // The stack of part four, as far as a reader keeps it: the kinds of its items.
-ghost use Rattle.std.specs.Prelude.{◌≡◌, ◌+◌, ◌≤◌, [], ◌∷◌};
+ghost use Rattle.std.specs.Prelude.{◌≡◌, ◌≤◌, true, [], length, nat_le};
 ghost use Rattle.std.specs.Option.{option_map};
 ghost use Rattle.policy.specs.Commands.{two_alike, guarding, kinds_after, one_policy};
-ghost use Rattle.policy.specs.View.{command, stack};
+ghost use Rattle.policy.specs.View.{command, stack, stack_after};
 
 use crate::Command;
 use crate::kind::Kind;
+use arrayvec::ArrayVec;
 
-// Room for one item more than a file may have, so that the seventeenth can be told apart.
-#[derive(Clone, Copy)]
+// How many items may stand on the stack.
+const MOST_ITEMS: usize = 16;
+
+// The kinds of the items, the last one pushed at the end.
+#[derive(Drop)]
 pub struct Kinds {
-    items: [Kind; 17],
-    depth: usize,
+    items: ArrayVec<Kind, MOST_ITEMS>,
+}
+
+// What a command does to the stack.
+#[derive(Clone, Copy)]
+pub enum Effect {
+    Keep,
+    Push(Kind),
+    // the two top items become one
+    Join(Kind),
 }
 
 impl Kinds {
@@ -19,93 +31,73 @@ impl Kinds {
         ensures { stack result ≡ [] }
     {
         Kinds {
-            items: [Kind::Target; 17],
-            depth: 0,
+            items: ArrayVec::new(),
         }
     }
 
-    pub(crate) fn depth(self) -> usize
-        ensures { result ≡ self.depth }
+    fn combined(&self) -> Option<Effect>
+        ensures { option_map (stack_after (stack self.now)) result ≡ two_alike (stack self.now) }
     {
-        self.depth
+        match self.items.as_slice() {
+            [.., lower, upper] if lower == upper => Some(Effect::Join(*upper)),
+            _ => None,
+        }
     }
 
-    fn pushed(self, kind: Kind) -> Kinds
-        requires { self.depth ≤ 16 }
-        ensures { stack result ≡ kind ∷ stack self }
+    fn guarded(&self) -> Option<Effect>
+        ensures { option_map (stack_after (stack self.now)) result ≡ guarding (stack self.now) }
     {
-        let mut items = self.items;
-        items[self.depth] = kind;
-        Kinds {
-            items,
-            depth: self.depth + 1,
+        match self.items.as_slice() {
+            [.., Kind::Target, Kind::Policy] => Some(Effect::Join(Kind::Policy)),
+            _ => None,
         }
     }
 
-    fn combined(self) -> Option<Kinds>
-        requires { self.depth ≤ 16 }
-        ensures { option_map stack result ≡ two_alike (stack self) }
-    {
-        let depth = self.depth;
-        if depth < 2 {
-            return None;
-        }
-        let upper = self.items[depth - 1];
-        let lower = self.items[depth - 2];
-        if !upper.is_same(lower) {
-            return None;
-        }
-        Some(Kinds {
-            items: self.items,
-            depth: depth - 1,
-        })
-    }
-
-    fn guarded(self) -> Option<Kinds>
-        requires { self.depth ≤ 16 }
-        ensures { option_map stack result ≡ guarding (stack self) }
-    {
-        let depth = self.depth;
-        if depth < 2 {
-            return None;
-        }
-        let upper = self.items[depth - 1];
-        let lower = self.items[depth - 2];
-        if !upper.is_policy() || lower.is_policy() {
-            return None;
-        }
-        let mut items = self.items;
-        items[depth - 2] = Kind::Policy;
-        Some(Kinds {
-            items,
-            depth: depth - 1,
-        })
-    }
-
-    // The kinds after a command; none where items are missing or of the wrong kind.
-    pub(crate) fn after(self, taken: Command<'_>) -> Option<Kinds>
-        requires { self.depth ≤ 16 }
-        ensures { option_map stack result ≡ kinds_after (command taken.entry) (stack self) }
+    // What a command does; none where items are missing or of the wrong kind.
+    pub(crate) fn effect(&self, taken: Command<'_>) -> Option<Effect>
+        ensures { option_map (stack_after (stack self.now)) result ≡ kinds_after (command taken.entry) (stack self.now) }
     {
         match taken {
-            Command::Pair { .. } => Some(self.pushed(Kind::Target)),
-            Command::Constant { .. } => Some(self.pushed(Kind::Policy)),
+            Command::Pair { .. } => Some(Effect::Push(Kind::Target)),
+            Command::Constant { .. } => Some(Effect::Push(Kind::Policy)),
             Command::Change { .. } => {
-                if self.depth == 0 {
+                if self.items.is_empty() {
                     return None;
                 }
-                Some(self)
+                Some(Effect::Keep)
             }
             Command::Combine { .. } => self.combined(),
             Command::Guard => self.guarded(),
-            _ => Some(self),
+            _ => Some(Effect::Keep),
         }
     }
 
-    pub(crate) fn is_one_policy(self) -> bool
-        ensures { result ≡ one_policy (stack self) }
+    // Whether there is room for what a command does.
+    pub(crate) fn has_room(&self, effect: Effect) -> bool
+        ensures { result ≡ nat_le (length (stack_after (stack self.now) effect)) 16 }
     {
-        let bottom = self.items[0];
-        self.depth == 1 && bottom.is_policy()
+        !(self.items.is_full() && matches!(effect, Effect::Push(_)))
+    }
+
+    // Does what a command does.
+    pub(crate) fn apply(&mut self, effect: Effect)
+        requires { length (stack_after (stack self.old) effect) ≤ 16 }
+        ensures { stack self.new ≡ stack_after (stack self.old) effect }
+    {
+        match effect {
+            Effect::Keep => {}
+            Effect::Push(kind) => self.items.push(kind),
+            Effect::Join(kind) => {
+                let _ = self.items.pop();
+                let _ = self.items.pop();
+                self.items.push(kind);
+            }
+        }
+    }
+
+    pub(crate) fn is_one_policy(&self) -> bool
+        ensures { result ≡ one_policy (stack self.now) }
+    {
+        matches!(self.items.as_slice(), [Kind::Policy])
     }
 }

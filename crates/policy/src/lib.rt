@@ -9,6 +9,7 @@ mod checks;
 mod command;
 mod commands;
 mod decision;
+mod encoded;
 mod example;
 mod fault;
 mod kind;

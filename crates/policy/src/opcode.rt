@@ -1,44 +1,53 @@
 ghost use Rattle.std.specs.Prelude.{◌≡◌};
+ghost use Rattle.std.specs.Result.{result_ok};
 ghost use Rattle.policy.specs.Commands as commands;
 
-// The commands of a file, without their operands.
-#[derive(Clone, Copy)]
+// The commands of a file, without their operands, by their bytes.
+#[derive(Clone, Copy, Debug, PartialEq, Eq)]
 pub enum Opcode {
-    Attribute,
-    Operator,
-    Exclusion,
-    AtMost,
-    AtLeast,
-    Pair,
-    Allow,
-    Deny,
-    Change,
-    Combine,
-    Guard,
-    End,
+    Attribute = 0x41,
+    Operator = 0x4f,
+    Exclusion = 0x58,
+    AtMost = 0x4d,
+    AtLeast = 0x4c,
+    Pair = 0x74,
+    Allow = 0x31,
+    Deny = 0x30,
+    Change = 0x6e,
+    Combine = 0x62,
+    Guard = 0x67,
+    End = 0x2e,
+}
+
+// A byte that begins no command.
+#[derive(Clone, Copy, Debug, PartialEq, Eq)]
+pub struct UnknownByte(pub u8);
+
+impl TryFrom<u8> for Opcode {
+    type Error = UnknownByte;
+
+    ghost try_from_gives = { λ byte r. result_ok r ≡ commands.opcode byte };
+
+    fn try_from(byte: u8) -> Result<Opcode, UnknownByte> {
+        match byte {
+            0x41 => Ok(Opcode::Attribute),
+            0x4f => Ok(Opcode::Operator),
+            0x58 => Ok(Opcode::Exclusion),
+            0x4d => Ok(Opcode::AtMost),
+            0x4c => Ok(Opcode::AtLeast),
+            0x74 => Ok(Opcode::Pair),
+            0x31 => Ok(Opcode::Allow),
+            0x30 => Ok(Opcode::Deny),
+            0x6e => Ok(Opcode::Change),
+            0x62 => Ok(Opcode::Combine),
+            0x67 => Ok(Opcode::Guard),
+            0x2e => Ok(Opcode::End),
+            _ => Err(UnknownByte(byte)),
+        }
+    }
 }
 
 impl Opcode {
-    pub(crate) fn of(byte: u8) -> Option<Opcode>
-        ensures { result ≡ commands.opcode byte }
-    {
-        match byte {
-            0x41 => Some(Opcode::Attribute),
-            0x4f => Some(Opcode::Operator),
-            0x58 => Some(Opcode::Exclusion),
-            0x4d => Some(Opcode::AtMost),
-            0x4c => Some(Opcode::AtLeast),
-            0x74 => Some(Opcode::Pair),
-            0x31 => Some(Opcode::Allow),
-            0x30 => Some(Opcode::Deny),
-            0x6e => Some(Opcode::Change),
-            0x62 => Some(Opcode::Combine),
-            0x67 => Some(Opcode::Guard),
-            0x2e => Some(Opcode::End),
-            _ => None,
-        }
-    }
-
     // The part of the file that the command belongs to.
     pub(crate) fn part(self) -> u8
         ensures { result ≡ commands.part self }

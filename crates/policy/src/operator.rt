@@ -1,7 +1,7 @@
 ghost use Rattle.policy.specs.View.{StandardRow};
 
 // A two-operand operator: the entry 3 × first + second is its value.
-#[derive(Clone, Copy)]
+#[derive(Clone, Copy, Debug, Default, PartialEq, Eq)]
 pub struct Row {
     pub entries: [u8; 9],
 }
@@ -34,10 +34,7 @@ impl Row {
     pub fn standard(code: u8) -> Option<Row>
         ensures { StandardRow result code }
     {
-        if code < 0x10 || code > 0x15 {
-            return None;
-        }
-        let i = code as usize - 0x10;
-        Some(STANDARD[i])
+        let i = code.checked_sub(0x10)?;
+        STANDARD.get(i as usize).copied()
     }
 }

@@ -1,19 +1,22 @@
-ghost use Rattle.std.specs.Prelude.{◌≡◌, ◌<◌, ◌≤◌, length};
-ghost use Rattle.policy.specs.Placed.{NamesWithin, OperatorsWithin, OperatorsDigits};
+ghost use Rattle.std.specs.Prelude.{◌≡◌, ◌<◌, ◌≤◌, true, length};
+ghost use Rattle.std.specs.List.{list_all};
+ghost use Rattle.arrayvec.specs.ArrayVec.{array_vec_len};
+ghost use Rattle.policy.specs.Commands.{are_digits};
+ghost use Rattle.policy.specs.Rows.{tables};
 
 use crate::kinds::Kinds;
+use crate::{Attribute, Row};
+use arrayvec::ArrayVec;
 
 mod declared;
 mod standing;
 mod steps;
 
-// An attribute that was declared: its first pair, how many pairs it has, and the place of its name.
-#[derive(Clone, Copy)]
-pub struct Declaration {
-    start: u8,
-    count: u8,
-    name: usize,
-}
+// How many pairs a file may have.
+const MOST_PAIRS: usize = 48;
+
+// How many own operators a file may have.
+const MOST_OPERATORS: usize = 8;
 
 // Reads a file command by command, and keeps what the next one is checked against.
 #[derive(Drop)]
@@ -23,21 +26,15 @@ pub struct Reader<'f> {
     place: usize,
     // the part of the file that was reached; 0 until the opening has been looked at
     part: u8,
-    attributes: [Declaration; 48],
-    declared: usize,
+    attributes: ArrayVec<Attribute<'f>, MOST_PAIRS>,
     pairs: u8,
-    // the places of the own operators' digits
-    own: [usize; 8],
-    operators: usize,
+    operators: ArrayVec<Row, MOST_OPERATORS>,
     kinds: Kinds,
     ghost short: { (0 < part → length file.now ≤ 65535) },
     ghost within: { (0 < part → place ≤ length file.now) },
     ghost first: { (part ≡ 0 → place ≡ 5) },
-    ghost some: { declared ≤ pairs },
+    ghost some: { array_vec_len attributes ≤ pairs },
     ghost few: { pairs ≤ 48 },
-    ghost eight: { operators ≤ 8 },
-    ghost items: { kinds.depth ≤ 16 },
-    ghost named: { NamesWithin file.now attributes declared },
-    ghost held: { OperatorsWithin file.now own operators },
-    ghost digits: { OperatorsDigits file.now own operators },
+    ghost eight: { array_vec_len operators ≤ 8 },
+    ghost digits: { list_all are_digits (tables operators.items) ≡ true },
 }
