@@ -1,6 +1,6 @@
 -- From line to line.
-use Rattle.std.proofs.Common.{◌≡◌, ℕ, ◌+◌, ◌<◌, ◌≤◌, Bool, true, false, cond, List, [], ◌∷◌, ◌++◌, length, get_or, take, Ok, Err, decimal, sym, refl, ap, ◌∙◌, append_assoc, append-nil}
-use Rattle.std.proofs.lemmas.List.{take_more, length-map}
+use Rattle.std.proofs.Common.{◌≡◌, ℕ, ◌+◌, ◌<◌, Bool, true, false, cond, List, [], ◌∷◌, ◌++◌, length, get_or, take, Ok, Err, decimal, sym, refl, ap, ◌∙◌, append_assoc, append-nil}
+use Rattle.std.proofs.lemmas.List.{take_more}
 use Rattle.policy.specs.declared.command.Command.{Command}
 use Rattle.policy.specs.declared.fault.ReadFault.{ReadFault}
 use Rattle.policy.specs.declared.reader.Reader.{Reader}
@@ -96,8 +96,3 @@ module _ {old new : Text} {first last : Reader} (h : Sofar old new first last) w
           text = named (sym (line_first [] (ahead_is true f) ∙ ap (λ l. (h.seen ++ line_text (context s) (place last) (command x)) ++ l) (lines_none (context s) (place s)) ∙ append-nil _)) (then h.text line);
           known = known_first [] (ahead_is true f);
         }
-
--- ---- own operators
-
-pub few_operators : (r : Reader) → length (context r).operators ≤ 8
-few_operators r = simp length-map r.eight

@@ -1,5 +1,6 @@
 -- What the trees of a formula stand for: policies, after the declarations of a file.
 use Rattle.std.specs.Prelude.{◌≡◌, List, ◌∷◌, map, reverse, Ok, Err, Result}
+use Rattle.policy.specs.Codes.{change_code, operator_code}
 use Rattle.policy.specs.Commands.{Context}
 use Rattle.policy.specs.Policies as p
 use Rattle.policy.specs.Reading.{Item, as_target, as_policy, target_of, Reading, fault, well}
@@ -15,14 +16,14 @@ use Rattle.inspect.specs.declared.formula.Item.TheVariants as item_of_kind
 -- the target that the program's tree stands for
 abbrev pub target : Context → t.Target → p.Target
 target x (target_of_kind.Pair n) = target_of x.attributes n
-target x (target_of_kind.Change' code b u) = p.altered code (target x u)
-target x (target_of_kind.Combine' code b u d v) = p.joined (digits_of x.operators code) (target x u) (target x v)
+target x (target_of_kind.Change' o b u) = p.altered (change_code o) (target x u)
+target x (target_of_kind.Combine' o b u d v) = p.joined (digits_of x.operators (operator_code o)) (target x u) (target x v)
 
 -- the policy that the program's tree stands for
 abbrev pub policy : Context → q.Policy → p.Policy
 policy x (policy_of_kind.Always d) = p.always d
-policy x (policy_of_kind.Change' code b r) = p.changed code (policy x r)
-policy x (policy_of_kind.Combine' code b r d s) = p.combined (digits_of x.operators code) (policy x r) (policy x s)
+policy x (policy_of_kind.Change' o b r) = p.changed (change_code o) (policy x r)
+policy x (policy_of_kind.Combine' o b r d s) = p.combined (digits_of x.operators (operator_code o)) (policy x r) (policy x s)
 policy x (policy_of_kind.Guard' u b r) = p.guarded (target x u) (policy x r)
 
 -- the item of the stack that the program's stands for

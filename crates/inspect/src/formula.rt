@@ -1,5 +1,5 @@
 // The policy of a file as a tree.
-use policy::Decision;
+use policy::{Change, Decision, Operator};
 
 mod build;
 
@@ -8,17 +8,16 @@ pub(crate) use build::formula;
 #[derive(Drop)]
 pub enum Target {
     Pair(u8),
-    // a one-operand code
-    Change(u8, Box<Target>),
-    // a two-operand code with the first and the second operand
-    Combine(u8, Box<Target>, Box<Target>),
+    Change(Change, Box<Target>),
+    // the first and the second operand
+    Combine(Operator, Box<Target>, Box<Target>),
 }
 
 #[derive(Drop)]
 pub enum Policy {
     Always(Decision),
-    Change(u8, Box<Policy>),
-    Combine(u8, Box<Policy>, Box<Policy>),
+    Change(Change, Box<Policy>),
+    Combine(Operator, Box<Policy>, Box<Policy>),
     Guard(Target, Box<Policy>),
 }
 

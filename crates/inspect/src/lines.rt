@@ -8,20 +8,8 @@ ghost use Rattle.inspect.specs.Written.{Adds};
 
 use crate::names::{attribute, change, constant, operator, pair};
 use crate::text::Text;
-use policy::{Command, Reader};
+use policy::{Command, Operator, Reader};
 use std::alloc::{AllocError, Global};
-
-// The code of the own operator that was declared last.
-fn newest(reader: &Reader) -> u8
-    ensures { result ≡ lists.newest_code (view.context reader.now) }
-{
-    for code in 0x21..0x28 {
-        if reader.row(code).is_none() {
-            return code - 1;
-        }
-    }
-    0x27
-}
 
 fn declared(heap: Global, text: &mut Text, name: &[u8], count: u8) -> Result<(), AllocError>
     ensures { Adds result text.old text.new (codes "attribute " ++ (kept name.now ++ (codes " " ++ decimal count))) }
@@ -45,7 +33,9 @@ fn own(heap: Global, text: &mut Text, reader: &Reader, entries: &[u8]) -> Result
     ensures { Adds result text.old text.new (codes "operator " ++ (names.operator_name (lists.newest_code (view.context reader.now)) ++ (codes " " ++ lists.digits_text entries.now))) }
 {
     text.add("operator ")?;
-    text.add(operator(newest(reader)))?;
+    // one is declared by now
+    let newest = reader.newest().unwrap_or(Operator::Op20);
+    text.add(operator(newest))?;
     text.add(" ")?;
     digits(heap, text, entries)
 }
@@ -107,13 +97,13 @@ fn operands(
             pair(heap, text, reader, number)
         }
         Command::Constant { decision } => text.add(constant(decision)),
-        Command::Change { code } => {
+        Command::Change { change: with } => {
             text.add("change ")?;
-            text.add(change(code))
+            text.add(change(with))
         }
-        Command::Combine { code } => {
+        Command::Combine { operator: with } => {
             text.add("combine ")?;
-            text.add(operator(code))
+            text.add(operator(with))
         }
         Command::Guard => text.add("guard"),
         Command::End => text.add("end"),

@@ -1,41 +1,42 @@
 // What operators, decisions, attributes and pairs are called.
 ghost use Rattle.std.specs.Prelude.{◌≡◌};
+ghost use Rattle.policy.specs.Codes.{change_code, operator_code};
 ghost use Rattle.policy.specs.View as view;
 ghost use Rattle.inspect.specs.Names as names;
 ghost use Rattle.inspect.specs.Written.{Adds};
 
 use crate::text::Text;
-use policy::{Decision, Reader};
+use policy::{Change, Decision, Operator, Reader};
 use std::alloc::{AllocError, Global};
 
-pub(crate) fn change(code: u8) -> &'static str
-    ensures { result.now ≡ names.change_name code }
+pub(crate) fn change(change: Change) -> &'static str
+    ensures { result.now ≡ names.change_name (change_code change) }
 {
-    match code {
-        0x00 => "not",
-        0x01 => "E1",
-        _ => "or-deny",
+    match change {
+        Change::Not => "not",
+        Change::E1 => "E1",
+        Change::OrDeny => "or-deny",
     }
 }
 
-pub(crate) fn operator(code: u8) -> &'static str
-    ensures { result.now ≡ names.operator_name code }
+pub(crate) fn operator(operator: Operator) -> &'static str
+    ensures { result.now ≡ names.operator_name (operator_code operator) }
 {
-    match code {
-        0x10 => "and",
-        0x11 => "weak-and",
-        0x12 => "deny-overrides",
-        0x13 => "or",
-        0x14 => "weak-or",
-        0x15 => "allow-overrides",
-        0x20 => "op20",
-        0x21 => "op21",
-        0x22 => "op22",
-        0x23 => "op23",
-        0x24 => "op24",
-        0x25 => "op25",
-        0x26 => "op26",
-        _ => "op27",
+    match operator {
+        Operator::And => "and",
+        Operator::WeakAnd => "weak-and",
+        Operator::DenyOverrides => "deny-overrides",
+        Operator::Or => "or",
+        Operator::WeakOr => "weak-or",
+        Operator::AllowOverrides => "allow-overrides",
+        Operator::Op20 => "op20",
+        Operator::Op21 => "op21",
+        Operator::Op22 => "op22",
+        Operator::Op23 => "op23",
+        Operator::Op24 => "op24",
+        Operator::Op25 => "op25",
+        Operator::Op26 => "op26",
+        Operator::Op27 => "op27",
     }
 }
 

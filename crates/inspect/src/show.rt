@@ -14,16 +14,16 @@ fn target(heap: Global, text: &mut Text, reader: &Reader, shown: &Target) -> Res
 {
     match shown {
         Target::Pair(number) => pair(heap, text, reader, *number),
-        Target::Change(code, inner) => {
-            text.add(change(*code))?;
+        Target::Change(by, inner) => {
+            text.add(change(*by))?;
             text.add(" ")?;
             target(heap, text, reader, inner)
         }
-        Target::Combine(code, first, second) => {
+        Target::Combine(by, first, second) => {
             text.add("(")?;
             target(heap, text, reader, first)?;
             text.add(" ")?;
-            text.add(operator(*code))?;
+            text.add(operator(*by))?;
             text.add(" ")?;
             target(heap, text, reader, second)?;
             text.add(")")
@@ -41,16 +41,16 @@ pub(crate) fn policy(
 {
     match shown {
         Policy::Always(decision) => text.add(constant(*decision)),
-        Policy::Change(code, inner) => {
-            text.add(change(*code))?;
+        Policy::Change(by, inner) => {
+            text.add(change(*by))?;
             text.add(" ")?;
             policy(heap, text, reader, inner)
         }
-        Policy::Combine(code, first, second) => {
+        Policy::Combine(by, first, second) => {
             text.add("(")?;
             policy(heap, text, reader, first)?;
             text.add(" ")?;
-            text.add(operator(*code))?;
+            text.add(operator(*by))?;
             text.add(" ")?;
             policy(heap, text, reader, second)?;
             text.add(")")

@@ -9,6 +9,7 @@ use Rattle.policy.specs.declared.opcode.Opcode.TheVariants.{Attribute, Operator,
 use Rattle.policy.specs.declared.kind.Kind.{Kind}
 use Rattle.policy.specs.declared.kind.Kind.TheVariants.{Target, Policy}
 use Rattle.policy.specs.Values.{Digits, is_standard, is_own}
+use Rattle.policy.specs.Codes.{is_change, is_operator}
 use Rattle.policy.specs.Policies as p
 
 -- ---- what a command looks like
@@ -119,6 +120,22 @@ decoded Change bs = act (change (slice_index bs 0))
 decoded Combine bs = act (combine (slice_index bs 0))
 decoded Guard bs = act guard
 decoded End bs = act end
+
+-- is an action's code one, if it has any?
+abbrev pub action_has_code : Action → Bool
+action_has_code (push_pair i) = true
+action_has_code (push d) = true
+action_has_code (change code) = is_change code
+action_has_code (combine code) = is_operator code
+action_has_code guard = true
+action_has_code end = true
+
+-- is a command's code one, if it has any?
+abbrev pub has_code : Command → Bool
+has_code (attribute name count) = true
+has_code (operator ds) = true
+has_code (restrict r) = true
+has_code (act a) = action_has_code a
 
 -- the command at p, once its operands are there
 abbrev pub command : List ℕ → ℕ → Opcode → Command

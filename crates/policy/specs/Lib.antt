@@ -6,6 +6,7 @@ pub mod Power
 pub mod Commands
 pub mod Reading
 pub mod Refusals
+pub mod Codes
 pub mod Rows
 pub mod View
 pub mod Laws

@@ -1,5 +1,5 @@
 -- What the program's types stand for, in the words of the format.
-use Rattle.std.specs.Prelude.{◌≡◌, ℕ, suc, ◌-◌, ◌<◌, ◌≤◌, true, false, cond, ◌||◌, List, [], ◌∷◌, map, reverse, length, drop, Some, None, Ok, Err, Option, Result, slice_index_or}
+use Rattle.std.specs.Prelude.{◌≡◌, ℕ, suc, ◌+◌, ◌-◌, ◌<◌, ◌≤◌, true, false, cond, ◌||◌, List, [], ◌∷◌, map, reverse, length, drop, Some, None, Ok, Err, Option, Result, ◌==◌, slice_index_or}
 use Rattle.policy.specs.declared.command.Attribute.{Attribute}
 use Rattle.policy.specs.declared.command.Command.{Command}
 use Rattle.policy.specs.declared.commands.Commands.{Commands}
@@ -17,6 +17,7 @@ use Rattle.policy.specs.Values.{Digits, standard, is_standard, is_own, digits_of
 use Rattle.policy.specs.Policies as p
 use Rattle.policy.specs.Commands as c
 use Rattle.policy.specs.Reading.{Progress, Step, refused, took, step, command_step, checked, Scan, scan, Reading, fault, well}
+use Rattle.policy.specs.Codes.{change_code, operator_code}
 use Rattle.policy.specs.Rows.{tables}
 use Rattle.policy.specs.Refusals.{number, place as fault_place}
 
@@ -29,10 +30,15 @@ command (code.AtMost attribute limit) = c.restrict (c.most attribute limit)
 command (code.AtLeast attribute limit) = c.restrict (c.least attribute limit)
 command (code.Pair i) = c.act (c.push_pair i)
 command (code.Constant d) = c.act (c.push d)
-command (code.Change code) = c.act (c.change code)
-command (code.Combine code) = c.act (c.combine code)
+command (code.Change change) = c.act (c.change (change_code change))
+command (code.Combine operator) = c.act (c.combine (operator_code operator))
 command code.Guard = c.act c.guard
 command code.End = c.act c.end
+
+-- the command that is decoded to, or its code is none
+abbrev pub Decoded : Option Command → c.Command → Type 0
+Decoded None x = c.has_code x ≡ false
+Decoded (Some k) x = command k ≡ x
 
 -- the kinds on the stack, the top first
 abbrev pub stack : Kinds → List Kind
@@ -151,6 +157,10 @@ abbrev pub ahead : Reader → Scan
 ahead r = scan (suc (length (bytes r))) (progress r) (bytes r) (place r)
 
 -- ---- what was declared
+
+-- the code of the own operator that was declared last
+abbrev pub newest : List Digits → Option ℕ
+newest own = cond (length own == 0) None (Some (0x20 + (length own - 1)))
 
 -- the operator of a code, and none where there is no such operator
 abbrev pub RowOf : Option Row → List Digits → ℕ → Type 0

@@ -2,7 +2,7 @@ ghost use Rattle.std.specs.Prelude.{◌≡◌};
 ghost use Rattle.policy.specs.Commands as commands;
 ghost use Rattle.policy.specs.View.{command};
 
-use crate::{Decision, Row};
+use crate::{Change, Decision, Operator, Row};
 
 // A command with its operands; the name of an attribute is a part of the file.
 #[derive(Clone, Copy, Debug, PartialEq, Eq)]
@@ -19,10 +19,10 @@ pub enum Command<'f> {
     Pair { pair: u8 },
     // pushes a policy that always decides so
     Constant { decision: Decision },
-    // a one-operand code for the top item
-    Change { code: u8 },
-    // a two-operand code for the two top items, the lower one first
-    Combine { code: u8 },
+    // a one-operand operator for the top item
+    Change { change: Change },
+    // a two-operand operator for the two top items, the lower one first
+    Combine { operator: Operator },
     Guard,
     End,
 }

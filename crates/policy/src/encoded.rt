@@ -2,7 +2,7 @@ ghost use Rattle.std.specs.Prelude.{◌≡◌, ◌+◌, length};
 ghost use Rattle.policy.specs.Commands.{size};
 
 use crate::opcode::Opcode;
-use crate::{Command, Decision, Row};
+use crate::{Change, Command, Decision, Operator, Row};
 
 // A command as it stands in the file: where it begins, its operands, and where the next one begins.
 #[derive(Clone, Copy)]
@@ -17,13 +17,14 @@ pub struct Encoded<'f> {
 
 impl<'f> Encoded<'f> {
     ghost use Rattle.policy.specs.Commands as commands;
-    ghost use Rattle.policy.specs.View.{command};
+    ghost use Rattle.policy.specs.View.{Decoded};
 
-    pub(crate) fn decoded(self) -> Command<'f>
-        ensures { command result ≡ commands.decoded self.entry.opcode self.entry.operands.now }
+    // The command; none where an operator's code is none.
+    pub(crate) fn decoded(self) -> Option<Command<'f>>
+        ensures { Decoded result (commands.decoded self.entry.opcode self.entry.operands.now) }
     {
         let operands = self.operands;
-        match self.opcode {
+        let command = match self.opcode {
             Opcode::Attribute => Command::Attribute {
                 name: &operands[..8],
                 count: operands[8],
@@ -54,10 +55,15 @@ impl<'f> Encoded<'f> {
             Opcode::Deny => Command::Constant {
                 decision: Decision::Deny,
             },
-            Opcode::Change => Command::Change { code: operands[0] },
-            Opcode::Combine => Command::Combine { code: operands[0] },
+            Opcode::Change => Command::Change {
+                change: Change::try_from(operands[0]).ok()?,
+            },
+            Opcode::Combine => Command::Combine {
+                operator: Operator::try_from(operands[0]).ok()?,
+            },
             Opcode::Guard => Command::Guard,
             Opcode::End => Command::End,
-        }
+        };
+        Some(command)
     }
 }

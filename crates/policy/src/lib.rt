@@ -6,6 +6,7 @@ ghost use Rattle.policy.specs.Reading.{reads};
 ghost use Rattle.policy.specs.View.{Answers};
 
 mod checks;
+mod code;
 mod command;
 mod commands;
 mod decision;
@@ -18,6 +19,7 @@ mod opcode;
 mod operator;
 mod reader;
 
+pub use code::{Change, Operator, UnknownCode};
 pub use command::{Attribute, Command};
 pub use commands::Commands;
 pub use decision::Decision;

@@ -2,6 +2,8 @@ ghost use Rattle.std.specs.Prelude.{◌≡◌};
 ghost use Rattle.std.specs.Result.{result_ok};
 ghost use Rattle.policy.specs.Commands as commands;
 
+use crate::UnknownCode;
+
 // The commands of a file, without their operands, by their bytes.
 #[derive(Clone, Copy, Debug, PartialEq, Eq)]
 pub enum Opcode {
@@ -19,16 +21,12 @@ pub enum Opcode {
     End = 0x2e,
 }
 
-// A byte that begins no command.
-#[derive(Clone, Copy, Debug, PartialEq, Eq)]
-pub struct UnknownByte(pub u8);
-
 impl TryFrom<u8> for Opcode {
-    type Error = UnknownByte;
+    type Error = UnknownCode;
 
     ghost try_from_gives = { λ byte r. result_ok r ≡ commands.opcode byte };
 
-    fn try_from(byte: u8) -> Result<Opcode, UnknownByte> {
+    fn try_from(byte: u8) -> Result<Opcode, UnknownCode> {
         match byte {
             0x41 => Ok(Opcode::Attribute),
             0x4f => Ok(Opcode::Operator),
@@ -42,7 +40,7 @@ impl TryFrom<u8> for Opcode {
             0x62 => Ok(Opcode::Combine),
             0x67 => Ok(Opcode::Guard),
             0x2e => Ok(Opcode::End),
-            _ => Err(UnknownByte(byte)),
+            _ => Err(UnknownCode(byte)),
         }
     }
 }

@@ -1,4 +1,5 @@
 ghost use Rattle.std.specs.Prelude.{◌≡◌, [], ◌∷◌, ◌++◌, Err, IfOk, OnErr, OnOk};
+ghost use Rattle.policy.specs.Codes.{change_code, operator_code};
 ghost use Rattle.policy.specs.Commands.{Context, guarding, one_item, two_alike};
 ghost use Rattle.policy.specs.Reading.{reads, changes, combines, guards, puts};
 ghost use Rattle.policy.specs.Values.{digits_of};
@@ -10,41 +11,41 @@ ghost use Rattle.inspect.specs.Trees.{Becomes, Builds};
 
 use super::{Item, Policy, Target};
 use crate::failure::Failure;
-use policy::{Command, Commands};
+use policy::{Change, Command, Commands, Operator};
 use std::alloc::Global;
 
-// An item after a one-operand code.
-fn changed(heap: Global, code: u8, item: Item) -> Result<Item, Failure>
-    ensures tree { Becomes result (λ x s. changes code (trees.item x item ∷ s)) }
+// An item after a one-operand operator.
+fn changed(heap: Global, change: Change, item: Item) -> Result<Item, Failure>
+    ensures tree { Becomes result (λ x s. changes (change_code change) (trees.item x item ∷ s)) }
     ensures kind { Turns result (λ ks. one_item (kind_of item ∷ ks)) }
 {
     match item {
         Item::Target(target) => {
             let target = Box::new(heap, target)?;
-            Ok(Item::Target(Target::Change(code, target)))
+            Ok(Item::Target(Target::Change(change, target)))
         }
         Item::Policy(policy) => {
             let policy = Box::new(heap, policy)?;
-            Ok(Item::Policy(Policy::Change(code, policy)))
+            Ok(Item::Policy(Policy::Change(change, policy)))
         }
     }
 }
 
-// Two items of one kind under a two-operand code.
-fn combined(heap: Global, code: u8, first: Item, second: Item) -> Result<Item, Failure>
-    ensures tree { Becomes result (λ x s. combines (digits_of x.operators code) (trees.item x second ∷ trees.item x first ∷ s)) }
+// Two items of one kind under a two-operand operator.
+fn combined(heap: Global, operator: Operator, first: Item, second: Item) -> Result<Item, Failure>
+    ensures tree { Becomes result (λ x s. combines (digits_of x.operators (operator_code operator)) (trees.item x second ∷ trees.item x first ∷ s)) }
     ensures kind { Turns result (λ ks. two_alike (kind_of second ∷ kind_of first ∷ ks)) }
 {
     match (first, second) {
         (Item::Target(a), Item::Target(b)) => {
             let first = Box::new(heap, a)?;
             let second = Box::new(heap, b)?;
-            Ok(Item::Target(Target::Combine(code, first, second)))
+            Ok(Item::Target(Target::Combine(operator, first, second)))
         }
         (Item::Policy(a), Item::Policy(b)) => {
             let first = Box::new(heap, a)?;
             let second = Box::new(heap, b)?;
-            Ok(Item::Policy(Policy::Combine(code, first, second)))
+            Ok(Item::Policy(Policy::Combine(operator, first, second)))
         }
         _ => Err(Failure::Items),
     }
@@ -79,14 +80,14 @@ fn act(heap: Global, items: &mut Vec<Item>, taken: Command) -> Result<(), Failur
     let item = match taken {
         Command::Pair { pair } => Item::Target(Target::Pair(pair)),
         Command::Constant { decision } => Item::Policy(Policy::Always(decision)),
-        Command::Change { code } => {
+        Command::Change { change } => {
             let item = popped(items)?;
-            changed(heap, code, item)?
+            changed(heap, change, item)?
         }
-        Command::Combine { code } => {
+        Command::Combine { operator } => {
             let second = popped(items)?;
             let first = popped(items)?;
-            combined(heap, code, first, second)?
+            combined(heap, operator, first, second)?
         }
         Command::Guard => {
             let policy = popped(items)?;

@@ -3,6 +3,7 @@ ghost use Rattle.std.specs.Prelude.{◌≡◌, not, ◌||◌};
 ghost use Rattle.std.specs.Option.{option_map};
 ghost use Rattle.std.specs.List.{slice_get};
 ghost use Rattle.policy.specs.Commands.{attribute, operator, exclusion, fresh, limits, allowed, restricts};
+ghost use Rattle.policy.specs.Codes.{operator_code};
 ghost use Rattle.policy.specs.Values.{is_standard, is_own};
 ghost use Rattle.policy.specs.Reading.{attribute_with};
 ghost use Rattle.policy.specs.View as view;
@@ -10,7 +11,7 @@ ghost use Rattle.policy.specs.View.{context, RowOf};
 
 use super::{MOST_PAIRS, Reader};
 use crate::checks::{are_digits, is_name};
-use crate::{Attribute, Row};
+use crate::{Attribute, Operator, Row};
 
 impl<'f> Reader<'f> {
     // Whether an attribute has this name.
@@ -54,11 +55,11 @@ impl<'f> Reader<'f> {
             .is_some_and(|attribute| limit <= attribute.count)
     }
 
-    // Whether a two-operand code is that of a standard operator or of an own one.
-    pub(crate) fn has_operator(&self, code: u8) -> bool
-        ensures { result ≡ is_standard code || is_own (context self.now).operators code }
+    // Whether an operator is standard, or an own one that was declared.
+    pub(crate) fn has_operator(&self, operator: Operator) -> bool
+        ensures { result ≡ is_standard (operator_code operator) || is_own (context self.now).operators (operator_code operator) }
     {
-        self.row(code).is_some()
+        self.row(operator.code()).is_some()
     }
 
     // The attribute with this number; attributes are numbered from 0 in the order of their declarations.
@@ -77,6 +78,14 @@ impl<'f> Reader<'f> {
             .iter()
             .find(|attribute| pair < attribute.start as usize + attribute.count as usize)
             .copied()
+    }
+
+    // The own operator that was declared last.
+    pub fn newest(&self) -> Option<Operator>
+        ensures { option_map operator_code result ≡ view.newest (context self.now).operators }
+    {
+        let before = self.operators.len().checked_sub(1)?;
+        Operator::try_from(0x20 + before as u8).ok()
     }
 
     // The operator of a two-operand code.

@@ -103,8 +103,8 @@ impl<'f> Reader<'f> {
             Command::AtLeast { attribute, limit } => self.limits(attribute, limit),
             Command::Pair { pair } => pair < self.pairs,
             Command::Constant { .. } => true,
-            Command::Change { code } => code <= 2,
-            Command::Combine { code } => self.has_operator(code),
+            Command::Change { .. } => true,
+            Command::Combine { operator } => self.has_operator(operator),
             Command::Guard => true,
             Command::End => true,
         }
@@ -138,11 +138,16 @@ impl<'f> Reader<'f> {
     }
 
     // The next command, if it is in order.
+    #[tactic(auto, using(crate::proofs::Declared::not_allowed), unfolding(crate::specs::Reading::checked))]
     fn checked(&self) -> Result<Checked<'f>, ReadFault>
         ensures { Checks result self.now }
     {
         let encoded = self.begun()?;
-        let command = encoded.decoded();
+        let Some(command) = encoded.decoded() else {
+            return Err(ReadFault::Operand {
+                place: encoded.place,
+            });
+        };
         let effect = self.settled(encoded, command)?;
         Ok(Checked {
             command,

@@ -1,5 +1,6 @@
 use Rattle.std.proofs.Common.{ℕ, List, sym, ap, ◌∙◌}
 use Rattle.policy.specs.declared.command.Command.{Command}
+use Rattle.policy.specs.Codes.{change_code, operator_code}
 use Rattle.policy.specs.View.{context, command}
 use Rattle.inspect.specs.Lines.{operands_text}
 use Rattle.inspect.specs.Names.{change_name, operator_name}
@@ -40,7 +41,7 @@ returns-in_ok-add-in-Change c =
     let text : Command → List ℕ = λ k. operands_text (context c.args.reader.now) (command k) in
     let r = c.add-in-Change-2.result in
     let z = c.add-in-Change-2.new.self in
-    let name = named_adds r c.add-in-Change.new.self z _ (change_name c.in-Change.code) (ap kept c.change.ensures ∙ kept_change c.in-Change.code) c.add-in-Change-2.ensures in
+    let name = named_adds r c.add-in-Change.new.self z _ (change_name (change_code c.in-Change.with)) (ap kept c.change.ensures ∙ kept_change (change_code c.in-Change.with)) c.add-in-Change-2.ensures in
     named_adds r c.args.text.now z _ _ (sym (ap text c.in-Change.is)) (then_adds r z _ c.in_ok-add-in-Change.ensures name)
 
 pub returns-in_ok-add-in-Combine : goal.returns-in_ok-add-in-Combine
@@ -49,7 +50,7 @@ returns-in_ok-add-in-Combine c =
     let text : Command → List ℕ = λ k. operands_text (context c.args.reader.now) (command k) in
     let r = c.add-in-Combine-2.result in
     let z = c.add-in-Combine-2.new.self in
-    let name = named_adds r c.add-in-Combine.new.self z _ (operator_name c.in-Combine.code) (ap kept c.operator.ensures ∙ kept_operator c.in-Combine.code) c.add-in-Combine-2.ensures in
+    let name = named_adds r c.add-in-Combine.new.self z _ (operator_name (operator_code c.in-Combine.with)) (ap kept c.operator.ensures ∙ kept_operator (operator_code c.in-Combine.with)) c.add-in-Combine-2.ensures in
     named_adds r c.args.text.now z _ _ (sym (ap text c.in-Combine.is)) (then_adds r z _ c.in_ok-add-in-Combine.ensures name)
 
 pub returns-in-Guard : goal.returns-in-Guard

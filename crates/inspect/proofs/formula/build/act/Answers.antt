@@ -1,5 +1,6 @@
 use Rattle.std.proofs.Common.{List, vec_items, Err, refl, ap, ◌∙◌}
 use Rattle.std.proofs.lemmas.Result.{err_from_is_err_and}
+use Rattle.policy.specs.Codes.{change_code, operator_code}
 use Rattle.policy.specs.Commands.{one_item, two_alike, guarding}
 use Rattle.policy.specs.Reading.{Item, changes, combines, guards}
 use Rattle.policy.specs.Values.{digits_of}
@@ -27,7 +28,7 @@ returns c =
       | in-Change+in_ok-item-in-Change+in_ok-item-in-Change-2 w ↦ record {
         tree = λ x. by_push x _ _ _ _ _ _ _ _ pushed (ap vec_items w.items-is) w.item-is (ap view.command w.in-Change.is)
             (w.in_ok-item-in-Change-2.ensures.tree x (stack x (vec_items w.popped.new.items)) ∙
-            ap (λ (s : List Item). changes w.in-Change.code s) (popped_one x _ _ w.in_ok-item-in-Change.item w.in_ok-item-in-Change.ensures.last));
+            ap (λ (s : List Item). changes (change_code w.in-Change.change) s) (popped_one x _ _ w.in_ok-item-in-Change.item w.in_ok-item-in-Change.ensures.last));
         kinds = allows_push _ _ _ old _ _ _ _ pushed (ap vec_items w.items-is) w.item-is (ap view.command w.in-Change.is)
             (ap one_item (kinds_one _ _ w.in_ok-item-in-Change.item w.in_ok-item-in-Change.ensures.last) ∙
             w.in_ok-item-in-Change-2.ensures.kind (kinds (vec_items w.popped.new.items)));
@@ -35,7 +36,7 @@ returns c =
       | in-Combine+in_ok-second-in-Combine+in_ok-first-in-Combine+in_ok-item-in-Combine w ↦ record {
         tree = λ x. by_push x _ _ _ _ _ _ _ _ pushed (ap vec_items w.items-is) w.item-is (ap view.command w.in-Combine.is)
             (w.in_ok-item-in-Combine.ensures.tree x (stack x (vec_items w.popped-in-Combine-2.new.items)) ∙
-            ap (λ (s : List Item). combines (digits_of x.operators w.in-Combine.code) s)
+            ap (λ (s : List Item). combines (digits_of x.operators (operator_code w.in-Combine.operator)) s)
             (popped_two x _ _ _ w.in_ok-second-in-Combine.second w.in_ok-first-in-Combine.first w.in_ok-second-in-Combine.ensures.last w.in_ok-first-in-Combine.ensures.last));
         kinds = allows_push _ _ _ old _ _ _ _ pushed (ap vec_items w.items-is) w.item-is (ap view.command w.in-Combine.is)
             (ap two_alike (kinds_two _ _ _ w.in_ok-second-in-Combine.second w.in_ok-first-in-Combine.first w.in_ok-second-in-Combine.ensures.last w.in_ok-first-in-Combine.ensures.last) ∙
