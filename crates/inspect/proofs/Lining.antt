@@ -1,5 +1,5 @@
 -- From line to line.
-use Rattle.std.proofs.Common.{◌≡◌, ℕ, ◌+◌, ◌<◌, Bool, true, false, cond, List, [], ◌∷◌, ◌++◌, length, get_or, take, Ok, Err, decimal, sym, refl, ap, ◌∙◌, append_assoc, append-nil}
+use Rattle.std.proofs.Common.{◌≡◌, ℕ, ◌+◌, ◌<◌, List, [], ◌∷◌, ◌++◌, length, get_or, take, Ok, Err, decimal, sym, refl, ap, ◌∙◌, append_assoc, append-nil}
 use Rattle.std.proofs.lemmas.List.{take_more}
 use Rattle.policy.specs.declared.command.Command.{Command}
 use Rattle.policy.specs.declared.fault.ReadFault.{ReadFault}
@@ -66,33 +66,23 @@ module _ {old new : Text} {first last : Reader} (h : Sofar old new first last) w
     follows : Follows (progress last) (place last) (command x) (progress s) (place s)
     follows = step_follows (progress last) (bytes last) (place last) (command x) (progress s) (place s) e
 
-    -- the line of x, and then those of some commands
-    line_first : (ks : List c.Command) → (ahead last).commands ≡ command x ∷ ks →
-        lines_text (context first) (place first) (ahead first).commands ≡ (h.seen ++ line_text (context s) (place last) (command x)) ++ lines_text (context s) (place s) ks
-    line_first ks f =
-        h.rest ∙ ap (λ l. h.seen ++ lines_text (context last) (place last) l) f ∙ ap (λ l. h.seen ++ l) (lines_more (context last) (place last) (command x) ks) ∙
+    first_is : (ahead last).commands ≡ command x ∷ (ahead s).commands
+    first_is = first_ahead last s x e same
+
+    -- the line of x, and then those of the commands ahead
+    line_first : lines_text (context first) (place first) (ahead first).commands ≡ (h.seen ++ line_text (context s) (place last) (command x)) ++ lines_text (context s) (place s) (ahead s).commands
+    line_first =
+        let ks = (ahead s).commands in
+        h.rest ∙ ap (λ l. h.seen ++ lines_text (context last) (place last) l) first_is ∙ ap (λ l. h.seen ++ l) (lines_more (context last) (place last) (command x) ks) ∙
         ap (λ y. h.seen ++ (line_text y (place last) (command x) ++ lines_text y (place last + 1 + size_of (command x)) ks)) (sym follows.context) ∙
         ap (λ p. h.seen ++ (line_text (context s) (place last) (command x) ++ lines_text (context s) p ks)) (sym follows.next) ∙
         sym (append_assoc h.seen (line_text (context s) (place last) (command x)) (lines_text (context s) (place s) ks))
 
-    known_first : (ks : List c.Command) → (ahead last).commands ≡ command x ∷ ks → after (context s) ks ≡ after (context first) (ahead first).commands
-    known_first ks f = ap (λ y. after y ks) follows.context ∙ sym (ap (λ l. after (context last) l) f) ∙ h.known
-
-    ahead_is : (b : Bool) → c.is_end (command x) ≡ b → (ahead last).commands ≡ command x ∷ cond b [] (ahead s).commands
-    ahead_is b f = first_ahead last s x e same ∙ ap (λ d. command x ∷ cond d [] (ahead s).commands) f
-
-    pub one_more : c.is_end (command x) ≡ false → Sofar old t first s
-    one_more f =
+    pub one_more : Sofar old t first s
+    one_more =
         record {
           seen = h.seen ++ line_text (context s) (place last) (command x);
           text = then h.text line;
-          rest = line_first (ahead s).commands (ahead_is false f);
-          known = known_first (ahead s).commands (ahead_is false f);
-        }
-
-    pub last_one : c.is_end (command x) ≡ true → Listed old t first s
-    last_one f =
-        record {
-          text = named (sym (line_first [] (ahead_is true f) ∙ ap (λ l. (h.seen ++ line_text (context s) (place last) (command x)) ++ l) (lines_none (context s) (place s)) ∙ append-nil _)) (then h.text line);
-          known = known_first [] (ahead_is true f);
+          rest = line_first;
+          known = ap (λ y. after y (ahead s).commands) follows.context ∙ sym (ap (λ l. after (context last) l) first_is) ∙ h.known;
         }

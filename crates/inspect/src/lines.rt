@@ -136,8 +136,5 @@ pub(crate) fn lines(heap: Global, text: &mut Text, reader: &mut Reader) -> Resul
             return Ok(());
         };
         line(heap, text, reader, place, taken)?;
-        if taken.is_end() {
-            return Ok(());
-        }
     }
 }

@@ -1,5 +1,5 @@
 -- What is ahead of a reader.
-use Rattle.std.proofs.Common.{◌≡◌, ℕ, suc, ◌<◌, ◌≤◌, Bool, true, false, cond, List, [], ◌∷◌, length, Ok, Err, sym, refl, ap, ◌∙◌, subst}
+use Rattle.std.proofs.Common.{◌≡◌, ℕ, suc, ◌<◌, ◌≤◌, true, false, cond, List, [], ◌∷◌, length, Ok, Err, sym, refl, ap, ◌∙◌, subst}
 use Rattle.std.proofs.lemmas.Bool.{cond-true, cond-false}
 use Rattle.policy.specs.declared.command.Command.{Command}
 use Rattle.policy.specs.declared.fault.ReadFault.{ReadFault}
@@ -8,7 +8,7 @@ use Rattle.policy.specs.Commands.{is_end}
 use Rattle.policy.specs.Reading.{Stop, stopped, ended, before, scan, scan_file, unopened, reads, read_as}
 use Rattle.policy.specs.Refusals as refusals
 use Rattle.policy.specs.View.{command, progress, bytes, place, told, next_step, ahead, Answers}
-use Rattle.policy.proofs.Scans.{step_takes, moves_on, ahead_refused, ahead_taken}
+use Rattle.policy.proofs.Scans.{step_takes, moves_on, ahead_refused, ahead_taken, ahead_first}
 
 pub ahead_of_new : (r : Reader) (file : List ℕ) → progress r ≡ unopened → bytes r ≡ file → place r ≡ 5 → ahead r ≡ scan_file file
 unfolding scan_file
@@ -26,12 +26,10 @@ module _ (r s : Reader) where
         ap (λ f. cond (is_end (command x)) (record { commands = command x ∷ []; stop = ended (progress s) }) (before (command x) (scan (suc (length f)) (progress s) f (place s)))) (sym b)
 
     -- the first command of those ahead
-    pub first_ahead : bytes s ≡ bytes r → (ahead r).commands ≡ command x ∷ cond (is_end (command x)) [] (ahead s).commands
-    first_ahead b = ap (λ a. a.commands) (ahead_of_taken b) ∙ by (is_end (command x))
-      where
-        by : (t : Bool) → (cond t (record { commands = command x ∷ []; stop = ended (progress s) }) (before (command x) (ahead s))).commands ≡ command x ∷ cond t [] (ahead s).commands
-        by true = refl
-        by false = refl
+    pub first_ahead : bytes s ≡ bytes r → (ahead r).commands ≡ command x ∷ (ahead s).commands
+    first_ahead b =
+        ahead_first (progress r) (bytes r) (place r) (command x) (progress s) (place s) e ∙
+        ap (λ f. command x ∷ (scan (suc (length f)) (progress s) f (place s)).commands) (sym b)
 
     pub stop_last : bytes s ≡ bytes r → is_end (command x) ≡ true → (ahead r).stop ≡ ended (progress s)
     stop_last b t = ap (λ a. a.stop) (ahead_of_taken b ∙ cond-true _ _ _ t)

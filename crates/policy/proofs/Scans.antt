@@ -19,6 +19,7 @@ pub record Takes (k : Progress) (file : List ℕ) (p : ℕ) (c : Command) (k' : 
   pub last : is_end c ≡ true → one_policy k'.kinds ≡ true
   pub declared : k'.context ≡ declares c k.context
   pub later : 0 < k'.part
+  pub ended : is_end c ≡ true → length file ≤ q
   pub next : q ≡ p + 1 + size op
 
 -- a step that is refused, or takes a command of which P holds
@@ -55,7 +56,7 @@ module _ (k : Progress) (file : List ℕ) (p : ℕ) where
   settled_takes o c (Some ks) e a s =
       by_test (ltb 16 (length ks)) (λ _. not_taken) (λ (few : ltb 16 (length ks) ≡ false).
       by_test (is_end c && not (one_policy ks)) (λ _. not_taken) (λ (one : (is_end c && not (one_policy ks)) ≡ false).
-      by_test (is_end c && ltb (p + 1) (length file)) (λ _. not_taken) (λ _. is_taken (record {
+      by_test (is_end c && ltb (p + 1) (length file)) (λ _. not_taken) (λ (end : (is_end c && ltb (p + 1) (length file)) ≡ false). is_taken (record {
         op = o;
         is = e;
         allows = a;
@@ -64,6 +65,7 @@ module _ (k : Progress) (file : List ℕ) (p : ℕ) where
         last = λ t. not-false _ (sym (ap (λ b. b && not (one_policy ks)) t) ∙ one);
         declared = refl;
         later = some_part o;
+        ended = λ t. let le = ltb-false _ _ (sym (ap (λ b. b && ltb (p + 1) (length file)) t) ∙ end) in omega arith;
         next = refl;
       }))))
 
@@ -101,10 +103,14 @@ scan_next : (n : ℕ) (k : Progress) (file : List ℕ) (p : ℕ) (s : Step) → 
 unfolding scan
 scan_next n k file p s e = ap (λ x. goes_on x (λ k' q. scan n k' file q)) (sym e)
 
+-- past the last byte nothing is ahead
+none_ahead : (n : ℕ) (k : Progress) (file : List ℕ) (p : ℕ) → 0 < k.part → length file ≤ p → scan (suc n) k file p ≡ record { commands = []; stop = stopped 4 (length file) }
+none_ahead n k file p l h = scan_next n k file p (refused 4 (length file)) (sym (step_later k file p l ∙ command_past k file p h))
+
 past : (n : ℕ) (k : Progress) (file : List ℕ) (p : ℕ) → 0 < k.part → length file < p → scan n k file p ≡ record { commands = []; stop = stopped 4 (length file) }
 unfolding scan
 past zero k file p l h = refl
-past (suc n) k file p l h = scan_next n k file p (refused 4 (length file)) (sym (step_later k file p l ∙ command_past k file p (omega arith)))
+past (suc n) k file p l h = none_ahead n k file p l (omega arith)
 
 -- two ways to go on that agree on what a step leads to
 agree_on : (s : Step) (f g : Progress → ℕ → Scan) → ((c : Command) (k : Progress) (q : ℕ) → took c k q ≡ s → f k q ≡ g k q) → goes_on s f ≡ goes_on s g
@@ -138,3 +144,14 @@ module _ (k : Progress) (file : List ℕ) (p : ℕ) where
   module _ (c : Command) (k' : Progress) (q : ℕ) (e : took c k' q ≡ step k file p) where
     pub ahead_taken : scan (suc (length file)) k file p ≡ cond (is_end c) (record { commands = c ∷ []; stop = ended k' }) (before c (scan (suc (length file)) k' file q))
     ahead_taken = ahead_next k file p (took c k' q) e
+
+    -- the first command of those ahead; after the end there are none
+    pub ahead_first : (scan (suc (length file)) k file p).commands ≡ c ∷ (scan (suc (length file)) k' file q).commands
+    ahead_first = ap (λ a. a.commands) ahead_taken ∙ by (is_end c) (λ t. let i = step_takes k file p c k' q e in none_ahead (length file) k' file q i.later (i.ended t))
+      where
+        rest : Scan
+        rest = scan (suc (length file)) k' file q
+
+        by : (t : Bool) → (t ≡ true → rest ≡ record { commands = []; stop = stopped 4 (length file) }) → (cond t (record { commands = c ∷ []; stop = ended k' }) (before c rest)).commands ≡ c ∷ rest.commands
+        by true none = ap (λ (a : Scan). c ∷ a.commands) (sym (none refl))
+        by false none = refl

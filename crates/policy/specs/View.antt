@@ -178,9 +178,9 @@ Answers (Err e) (fault m p) = (number e ≡ m) × (fault_place e ≡ p)
 
 -- the commands that are still to come
 abbrev pub to_come : Commands → List c.Command
-to_come s = cond s.over [] (ahead s.reader).commands
+to_come s = (ahead s.reader).commands
 
 -- the first of them is yielded, and the others are then to come; or there are none
-abbrev pub Yields : Option Command → Commands → Commands → Type 0
-Yields None old new = (to_come old ≡ []) × (to_come new ≡ [])
-Yields (Some x) old new = (to_come old ≡ command x ∷ to_come new) × (next_step old.reader ≡ told (Ok x) new.reader)
+abbrev pub Yields : Commands → Option Command → Commands → Type 0
+Yields old None new = (to_come old ≡ []) × (to_come new ≡ [])
+Yields old (Some x) new = (to_come old ≡ command x ∷ to_come new) × (next_step old.reader ≡ told (Ok x) new.reader)

@@ -7,5 +7,4 @@ mod next;
 #[derive(Drop)]
 pub struct Commands<'f> {
     reader: Reader<'f>,
-    over: bool,
 }

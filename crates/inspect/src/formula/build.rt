@@ -106,8 +106,7 @@ pub(crate) fn formula(heap: Global, file: &[u8]) -> Result<Policy, Failure>
     ensures memory { NeedsMemoryAlone result (reads file.now) }
 {
     let mut items = Vec::new(heap);
-    let mut commands = Commands::of(file);
-    while let Some(command) = commands.next() {
+    for command in Commands::of(file) {
         act(heap, &mut items, command)?;
     }
     match popped(&mut items)? {

@@ -1,4 +1,5 @@
 ghost use Rattle.std.specs.Prelude.{◌≡◌};
+ghost use Rattle.std.specs.Iterator.{item_count};
 ghost use Rattle.policy.specs.Reading.{commands_of};
 ghost use Rattle.policy.specs.View.{to_come, Yields};
 
@@ -11,7 +12,6 @@ impl<'f> Commands<'f> {
     {
         Commands {
             reader: Reader::new(file),
-            over: false,
         }
     }
 
@@ -21,22 +21,16 @@ impl<'f> Commands<'f> {
     {
         &self.reader
     }
+}
 
-    pub fn next(&mut self) -> Option<Command<'f>>
-        ensures { Yields result self.old self.new }
-    {
-        if self.over {
-            return None;
-        }
-        match self.reader.next() {
-            Ok(command) => {
-                self.over = command.is_end();
-                Some(command)
-            }
-            Err(_) => {
-                self.over = true;
-                None
-            }
-        }
+impl<'f> Iterator for Commands<'f> {
+    type Item = Command<'f>;
+
+    ghost next_gives = { Yields };
+
+    ghost remaining = { item_count to_come };
+
+    fn next(&mut self) -> Option<Command<'f>> {
+        self.reader.next().ok()
     }
 }

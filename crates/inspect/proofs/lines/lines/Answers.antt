@@ -1,9 +1,9 @@
-use Rattle.std.proofs.Common.{ℕ, length, sym, ap, arith}
+use Rattle.std.proofs.Common.{ℕ, length, ap, arith}
 use Rattle.policy.specs.View.{context, command}
 use Rattle.policy.proofs.Readers.{place_moves, place_within}
 use Rattle.inspect.specs.Lines.{line_text}
 use Rattle.inspect.proofs.Joins.{named}
-use Rattle.inspect.proofs.Lining.{none_yet, one_more, last_one, no_more}
+use Rattle.inspect.proofs.Lining.{none_yet, one_more, no_more}
 use Rattle.inspect.proofs.lines.lines.Goals as goal
 
 pub loop-taken-init : goal.loop-taken-init
@@ -13,14 +13,6 @@ pub returns-in_default : goal.returns-in_default
 returns-in_default c =
     let e = c.in_default.ensures in
     no_more c.loop-taken.invariant c.in_default.field-0 c.next.new.self e.is e.kept
-
-pub returns-then-is_end : goal.returns-then-is_end
-returns-then-is_end c =
-    let s = c.next.new.self in
-    let x = c.in-Ok.taken in
-    let e = c.in-Ok.ensures in
-    let line = named (ap (λ (p : ℕ). line_text (context s) p (command x)) c.place-place.ensures) c.in_ok-line.ensures in
-    last_one c.loop-taken.invariant x s c.line.new.text e.is e.same line (sym c.if-is_end.ensures)
 
 pub loop-taken-smaller : goal.loop-taken-smaller
 loop-taken-smaller c =
@@ -35,4 +27,4 @@ loop-taken-preserved c =
     let x = c.in-Ok.taken in
     let e = c.in-Ok.ensures in
     let line = named (ap (λ (p : ℕ). line_text (context s) p (command x)) c.place-place.ensures) c.in_ok-line.ensures in
-    one_more c.loop-taken.invariant x s c.line.new.text e.is e.same line (sym c.if-is_end.ensures)
+    one_more c.loop-taken.invariant x s c.line.new.text e.is e.same line

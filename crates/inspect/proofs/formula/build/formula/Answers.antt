@@ -1,8 +1,10 @@
-use Rattle.std.proofs.Common.{◌≡◌, List, [], ◌∷◌, ◌++◌, vec_items, Err, Result, sym, refl, ap, ◌∙◌}
+use Rattle.std.proofs.Common.{◌≡◌, List, [], ◌∷◌, ◌++◌, vec_items, Err, Result, sym, refl, ap, ◌∙◌, subst, Some, None, Option}
 use Rattle.std.proofs.lemmas.Result.{err_from_is_err_and}
 use Rattle.policy.specs.Commands.{Command, Context}
 use Rattle.policy.specs.Reading.{Item, commands_of, reads}
-use Rattle.policy.specs.View.{command, to_come}
+use Rattle.policy.specs.declared.command.Command as k
+use Rattle.policy.specs.declared.commands.Commands.{Commands}
+use Rattle.policy.specs.View.{command, to_come, Yields}
 use Rattle.inspect.specs.declared.failure.Failure.{Failure}
 use Rattle.inspect.specs.declared.failure.Failure.TheVariants.{Items}
 use Rattle.inspect.specs.declared.formula.Policy.{Policy}
@@ -14,13 +16,17 @@ use Rattle.inspect.proofs.Allowing.{kinds_under, then_kinds, refused_items, need
 use Rattle.inspect.proofs.Stacking.{stack_under, all_declared, finished}
 use Rattle.inspect.proofs.formula.build.formula.Goals as goal
 
+-- what a call of `next` gave
+gave : (old new : Commands) (r r' : Option k.Command) → r ≡ r' → Yields old r new → Yields old r' new
+gave old new r r' e y = subst (λ (o : Option k.Command). Yields old o new) e y
+
 pub loop-command-init : goal.loop-command-init
 loop-command-init c =
     let x : Context = all_declared c.args.file.now in
     record {
-      tree = ap (λ (cs : List Command). stack_under x cs (stack x (vec_items c.new-items.result))) c.of-commands.ensures ∙
+      tree = ap (λ (cs : List Command). stack_under x cs (stack x (vec_items c.new-items.result))) (ap to_come c.into_iter-command-iterator.ensures.into_iter_gives ∙ c.of-command-items.ensures) ∙
           ap (λ (l : List i.Item). stack_under x (commands_of c.args.file.now) (stack x l)) c.new-items.ensures.items;
-      kinds = ap (λ (cs : List Command). kinds_under cs (kinds (vec_items c.new-items.result))) c.of-commands.ensures ∙
+      kinds = ap (λ (cs : List Command). kinds_under cs (kinds (vec_items c.new-items.result))) (ap to_come c.into_iter-command-iterator.ensures.into_iter_gives ∙ c.of-command-items.ensures) ∙
           ap (λ (l : List i.Item). kinds_under (commands_of c.args.file.now) (kinds l)) c.new-items.ensures.items;
     }
 
@@ -29,9 +35,9 @@ loop-command-preserved c =
     let x : Context = all_declared c.args.file.now in
     record {
       tree = ap (λ (s : List Item). stack_under x (to_come c.next.new.self) s) (c.in_ok-act.ensures.tree x) ∙
-          sym (ap (λ (cs : List Command). stack_under x cs (stack x (vec_items c.loop-command.items))) c.in-Some.ensures.0) ∙ c.loop-command.invariant.tree;
+          sym (ap (λ (cs : List Command). stack_under x cs (stack x (vec_items c.loop-command.items))) (gave c.loop-command.command-iterator c.next.new.self c.next.result (Some c.in-Some.command) c.in-Some.is c.next.ensures.steps).0) ∙ c.loop-command.invariant.tree;
       kinds = sym (ap (λ o. then_kinds o (kinds_under (to_come c.next.new.self))) c.in_ok-act.ensures.kinds) ∙
-          sym (ap (λ (cs : List Command). kinds_under cs (kinds (vec_items c.loop-command.items))) c.in-Some.ensures.0) ∙ c.loop-command.invariant.kinds;
+          sym (ap (λ (cs : List Command). kinds_under cs (kinds (vec_items c.loop-command.items))) (gave c.loop-command.command-iterator c.next.new.self c.next.result (Some c.in-Some.command) c.in-Some.is c.next.ensures.steps).0) ∙ c.loop-command.invariant.kinds;
     }
 
 pub returns-in_err-act-clause-memory : goal.returns-in_err-act-clause-memory
@@ -40,8 +46,8 @@ returns-in_err-act-clause-memory c =
     let p = err_from_is_err_and r c.from_residual.ensures.1 in
     let e : Failure = c.in_err-act.field-0.0 in
     needs r e (reads c.args.file.now) (p.1 ∙ ap Err p.2) (λ (is : e ≡ Items).
-    not_refused c.args.file.now (to_come c.loop-command.commands) (vec_items c.loop-command.items) c.loop-command.invariant.kinds
-    (command c.in-Some.command) (to_come c.next.new.self) c.in-Some.ensures.0 (refused_items e _ _ _ is c.in_err-act.ensures.kinds))
+    not_refused c.args.file.now (to_come c.loop-command.command-iterator) (vec_items c.loop-command.items) c.loop-command.invariant.kinds
+    (command c.in-Some.command) (to_come c.next.new.self) (gave c.loop-command.command-iterator c.next.new.self c.next.result (Some c.in-Some.command) c.in-Some.is c.next.ensures.steps).0 (refused_items e _ _ _ is c.in_err-act.ensures.kinds))
 
 pub returns-in_err-policy-clause-memory : goal.returns-in_err-policy-clause-memory
 returns-in_err-policy-clause-memory c =
@@ -49,14 +55,14 @@ returns-in_err-policy-clause-memory c =
     let p = err_from_is_err_and r c.from_residual-in_err-policy.ensures.1 in
     let items : List i.Item = vec_items c.loop-command.items in
     needs r c.in_err-policy.field-0.0 (reads c.args.file.now) (p.1 ∙ ap Err p.2) (λ is.
-    not_left c.args.file.now (to_come c.loop-command.commands) items c.loop-command.invariant.kinds c.in_default.ensures.0 (none_left items c.in_err-policy.ensures.none.1))
+    not_left c.args.file.now (to_come c.loop-command.command-iterator) items c.loop-command.invariant.kinds (gave c.loop-command.command-iterator c.next.new.self c.next.result None c.in-None.is c.next.ensures.steps).0 (none_left items c.in_err-policy.ensures.none.1))
 
 pub returns-clause-memory : goal.returns-clause-memory
 returns-clause-memory c =
     let items : List i.Item = vec_items c.loop-command.items in
     let r : Result Policy Failure = Err Items in
     needs r Items (reads c.args.file.now) refl (λ is.
-    not_left c.args.file.now (to_come c.loop-command.commands) items c.loop-command.invariant.kinds c.in_default.ensures.0
+    not_left c.args.file.now (to_come c.loop-command.command-iterator) items c.loop-command.invariant.kinds (gave c.loop-command.command-iterator c.next.new.self c.next.result None c.in-None.is c.next.ensures.steps).0
     (target_left items (vec_items c.popped.new.items) _ _ c.in_ok-policy.ensures.last c.in-Target.is))
 
 pub returns-in-Policy : goal.returns-in-Policy
@@ -67,5 +73,5 @@ returns-in-Policy c =
     let left : items ≡ rest ++ (item_of_kind.Policy c.in-Policy.policy ∷ []) =
     c.in_ok-policy.ensures.last ∙ ap (λ (u : i.Item). rest ++ (u ∷ [])) c.in-Policy.is in
     let all : stack x items ≡ stack_under x (commands_of c.args.file.now) [] =
-    sym (ap (λ (cs : List Command). stack_under x cs (stack x items)) c.in_default.ensures.0) ∙ c.loop-command.invariant.tree in
+    sym (ap (λ (cs : List Command). stack_under x cs (stack x items)) (gave c.loop-command.command-iterator c.next.new.self c.next.result None c.in-None.is c.next.ensures.steps).0) ∙ c.loop-command.invariant.tree in
     record { tree = finished c.args.file.now c.in-Policy.policy items rest left all; memory = tt }
