@@ -28,23 +28,22 @@ module _ (b : ℕ) (bs : List ℕ) where
   letters t = cond t (1 + prefix_len printable bs) 0
 
   padded_at : (t : Bool) → printable b ≡ t → padded bs ≡ zeros (drop (prefix_len printable bs) bs) → padded (b ∷ bs) ≡ zeros (drop (letters t) (b ∷ bs))
-  unfolding padded zeros
+  unfolding padded
   padded_at true e rest = cond-false _ _ _ (not_zero b e) ∙ ap (λ t. t && padded bs) e ∙ rest ∙ ap (λ m. zeros (drop m (b ∷ bs))) (sym (one_more (prefix_len printable bs)))
   padded_at false e rest = ap (λ t. cond (eqb b 0) (zeros bs) (t && padded bs)) e ∙ either (eqb b 0) (zeros bs)
 
   name_at : (t : Bool) → printable b ≡ t → (not (eqb b 0) && zeros (drop (letters t) (b ∷ bs))) ≡ (ltb 0 (letters t) && zeros (drop (letters t) (b ∷ bs)))
-  unfolding zeros
   name_at true e = ap (λ t. not t && zeros (drop (letters true) (b ∷ bs))) (not_zero b e) ∙ ap (λ t. t && zeros (drop (letters true) (b ∷ bs))) (sym (lt-ltb 0 (letters true) (omega arith)))
   name_at false e = neither (eqb b 0) (zeros bs)
 
 -- after its letters a name has 00 to the end
 padded_is : (bs : List ℕ) → padded bs ≡ zeros (drop (prefix_len printable bs) bs)
-unfolding padded zeros
+unfolding padded
 padded_is [] = refl
 padded_is (b ∷ bs) = padded_at b bs (printable b) refl (padded_is bs)
 
 pub is_name_is : (bs : List ℕ) → is_name bs ≡ (ltb 0 (prefix_len printable bs) && zeros (drop (prefix_len printable bs) bs))
-unfolding is_name zeros
+unfolding is_name
 is_name_is [] = refl
 is_name_is (b ∷ bs) = ap (λ t. not (eqb b 0) && t) (padded_is (b ∷ bs)) ∙ name_at b bs (printable b) refl
 
