@@ -82,7 +82,7 @@ fn operands(
 {
     match taken {
         Command::Attribute { name, count } => declared(heap, text, name, count),
-        Command::Operator { row } => own(heap, text, reader, &row.entries),
+        Command::Operator { digits } => own(heap, text, reader, digits),
         Command::Exclusion { first, second } => exclusion(heap, text, reader, first, second),
         Command::AtMost {
             attribute,

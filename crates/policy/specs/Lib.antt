@@ -11,3 +11,4 @@ pub mod Rows
 pub mod View
 pub mod Laws
 pub mod Examples
+pub mod Parts

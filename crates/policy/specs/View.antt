@@ -1,5 +1,5 @@
 -- What the program's types stand for, in the words of the format.
-use Rattle.std.specs.Prelude.{◌≡◌, ℕ, suc, ◌+◌, ◌-◌, ◌<◌, ◌≤◌, true, false, cond, ◌||◌, List, [], ◌∷◌, map, reverse, length, drop, Some, None, Ok, Err, Option, Result, ◌==◌, slice_index_or}
+use Rattle.std.specs.Prelude.{◌≡◌, ℕ, suc, ◌+◌, ◌-◌, ◌≤◌, true, false, cond, ◌||◌, List, [], ◌∷◌, map, reverse, length, drop, Some, None, Ok, Err, Option, Result, ◌==◌, slice_index_or}
 use Rattle.policy.specs.declared.command.Attribute.{Attribute}
 use Rattle.policy.specs.declared.command.Command.{Command}
 use Rattle.policy.specs.declared.commands.Commands.{Commands}
@@ -19,12 +19,13 @@ use Rattle.policy.specs.Commands as c
 use Rattle.policy.specs.Reading.{Progress, Step, refused, took, step, command_step, checked, Scan, scan, Reading, fault, well}
 use Rattle.policy.specs.Codes.{change_code, operator_code}
 use Rattle.policy.specs.Rows.{tables}
+use Rattle.policy.specs.Parts.{part_number, reached}
 use Rattle.policy.specs.Refusals.{number, place as fault_place}
 
 -- the command that a value of the code stands for
 abbrev pub command : Command → c.Command
 command (code.Attribute name count) = c.attribute name.now count
-command (code.Operator row) = c.operator row.entries
+command (code.Operator digits) = c.operator digits.now
 command (code.Exclusion first second) = c.restrict (c.exclusion first second)
 command (code.AtMost attribute limit) = c.restrict (c.most attribute limit)
 command (code.AtLeast attribute limit) = c.restrict (c.least attribute limit)
@@ -75,7 +76,7 @@ context r = record { attributes = map attribute r.attributes.items; pairs = r.pa
 
 -- how far a reader is
 abbrev pub progress : Reader → Progress
-progress r = record { part = r.part; context = context r; kinds = stack r.kinds }
+progress r = record { part = reached r.part; context = context r; kinds = stack r.kinds }
 
 -- the next step of a reader, as it answers it
 abbrev pub told : Result Command ReadFault → Reader → Step
@@ -138,9 +139,8 @@ Settles y x (Err f) r = checks_left r y x ≡ refused (number f) (fault_place f)
 pub record InOrder (x : Checked) (r : Reader) : Type 0 where
   pub short : length (bytes r) ≤ 65535
   pub within : x.next ≤ length (bytes r)
-  pub later : 0 < x.part
   pub settled : Settled (command x.command) x.effect r
-  pub is : next_step r ≡ took (command x.command) (after r x.part (command x.command) x.effect) x.next
+  pub is : next_step r ≡ took (command x.command) (after r (part_number x.part) (command x.command) x.effect) x.next
 
 -- all checks of the next command pass so, or refuse so
 abbrev pub Checks : Result Checked ReadFault → Reader → Type 0

@@ -2,15 +2,15 @@ ghost use Rattle.std.specs.Prelude.{◌≡◌};
 ghost use Rattle.policy.specs.Commands as commands;
 ghost use Rattle.policy.specs.View.{command};
 
-use crate::{Change, Decision, Operator, Row};
+use crate::{Change, Decision, Operator};
 
-// A command with its operands; the name of an attribute is a part of the file.
+// A command with its operands; names and digits are parts of the file.
 #[derive(Clone, Copy, Debug, PartialEq, Eq)]
 pub enum Command<'f> {
     // a name of eight bytes, and how many values the attribute has
     Attribute { name: &'f [u8], count: u8 },
     // an own operator by its nine digits
-    Operator { row: Row },
+    Operator { digits: &'f [u8; 9] },
     // two pairs that never hold together
     Exclusion { first: u8, second: u8 },
     AtMost { attribute: u8, limit: u8 },

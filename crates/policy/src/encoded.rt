@@ -2,7 +2,7 @@ ghost use Rattle.std.specs.Prelude.{◌≡◌, ◌+◌, length};
 ghost use Rattle.policy.specs.Commands.{size};
 
 use crate::opcode::Opcode;
-use crate::{Change, Command, Decision, Operator, Row};
+use crate::{Change, Command, Decision, Operator};
 
 // A command as it stands in the file: where it begins, its operands, and where the next one begins.
 #[derive(Clone, Copy)]
@@ -29,13 +29,9 @@ impl<'f> Encoded<'f> {
                 name: &operands[..8],
                 count: operands[8],
             },
-            Opcode::Operator => {
-                let mut entries = [0; 9];
-                entries.copy_from_slice(operands);
-                Command::Operator {
-                    row: Row { entries },
-                }
-            }
+            Opcode::Operator => Command::Operator {
+                digits: operands.try_into().ok()?,
+            },
             Opcode::Exclusion => Command::Exclusion {
                 first: operands[0],
                 second: operands[1],

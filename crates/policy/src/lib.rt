@@ -17,6 +17,7 @@ mod kind;
 mod kinds;
 mod opcode;
 mod operator;
+mod part;
 mod reader;
 
 pub use code::{Change, Operator, UnknownCode};

@@ -1,8 +1,10 @@
 ghost use Rattle.std.specs.Prelude.{◌≡◌};
 ghost use Rattle.std.specs.Result.{result_ok};
 ghost use Rattle.policy.specs.Commands as commands;
+ghost use Rattle.policy.specs.Parts.{part_number};
 
 use crate::UnknownCode;
+use crate::part::Part;
 
 // The commands of a file, without their operands, by their bytes.
 #[derive(Clone, Copy, Debug, PartialEq, Eq)]
@@ -47,14 +49,14 @@ impl TryFrom<u8> for Opcode {
 
 impl Opcode {
     // The part of the file that the command belongs to.
-    pub(crate) fn part(self) -> u8
-        ensures { result ≡ commands.part self }
+    pub(crate) fn part(self) -> Part
+        ensures { part_number result ≡ commands.part self }
     {
         match self {
-            Opcode::Attribute => 1,
-            Opcode::Operator => 2,
-            Opcode::Exclusion | Opcode::AtMost | Opcode::AtLeast => 3,
-            _ => 4,
+            Opcode::Attribute => Part::Attributes,
+            Opcode::Operator => Part::Operators,
+            Opcode::Exclusion | Opcode::AtMost | Opcode::AtLeast => Part::Constraints,
+            _ => Part::Policy,
         }
     }
 

@@ -2,9 +2,11 @@ ghost use Rattle.std.specs.Prelude.{◌≡◌, ◌<◌, ◌≤◌, true, length}
 ghost use Rattle.std.specs.List.{list_all};
 ghost use Rattle.arrayvec.specs.ArrayVec.{array_vec_len};
 ghost use Rattle.policy.specs.Commands.{are_digits};
+ghost use Rattle.policy.specs.Parts.{reached};
 ghost use Rattle.policy.specs.Rows.{tables};
 
 use crate::kinds::Kinds;
+use crate::part::Part;
 use crate::{Attribute, Row};
 use arrayvec::ArrayVec;
 
@@ -24,15 +26,15 @@ pub struct Reader<'f> {
     file: &'f [u8],
     // where the next command begins
     place: usize,
-    // the part of the file that was reached; 0 until the opening has been looked at
-    part: u8,
+    // the part of the file that was reached, once the opening has been looked at
+    part: Option<Part>,
     attributes: ArrayVec<Attribute<'f>, MOST_PAIRS>,
     pairs: u8,
     operators: ArrayVec<Row, MOST_OPERATORS>,
     kinds: Kinds,
-    ghost short: { (0 < part → length file.now ≤ 65535) },
-    ghost within: { (0 < part → place ≤ length file.now) },
-    ghost first: { (part ≡ 0 → place ≡ 5) },
+    ghost short: { (0 < reached part → length file.now ≤ 65535) },
+    ghost within: { (0 < reached part → place ≤ length file.now) },
+    ghost first: { (reached part ≡ 0 → place ≡ 5) },
     ghost some: { array_vec_len attributes ≤ pairs },
     ghost few: { pairs ≤ 48 },
     ghost eight: { array_vec_len operators ≤ 8 },

@@ -34,10 +34,10 @@ impl<'f> Reader<'f> {
     }
 
     // Whether an own operator may be declared.
-    pub(crate) fn may_add(&self, row: Row) -> bool
-        ensures { result ≡ allowed (context self.now) (operator row.entries) }
+    pub(crate) fn may_add(&self, digits: &[u8; 9]) -> bool
+        ensures { result ≡ allowed (context self.now) (operator digits.now) }
     {
-        are_digits(&row.entries) && !self.operators.is_full()
+        are_digits(digits) && !self.operators.is_full()
     }
 
     // Whether two pairs may be said never to hold together.

@@ -6,7 +6,8 @@ use crate::checks::wrong_opening;
 use crate::encoded::Encoded;
 use crate::kinds::{Effect, Kinds};
 use crate::opcode::Opcode;
-use crate::{Attribute, Command, ReadFault};
+use crate::part::Part;
+use crate::{Attribute, Command, ReadFault, Row};
 use arrayvec::ArrayVec;
 
 // How long a file may be.
@@ -16,7 +17,7 @@ const MOST_BYTES: usize = 65_535;
 #[derive(Clone, Copy)]
 pub struct Checked<'f> {
     command: Command<'f>,
-    part: u8,
+    part: Part,
     effect: Effect,
     next: usize,
 }
@@ -36,7 +37,7 @@ impl<'f> Reader<'f> {
         Reader {
             file,
             place: 5,
-            part: 0,
+            part: None,
             attributes: ArrayVec::new(),
             pairs: 0,
             operators: ArrayVec::new(),
@@ -49,7 +50,7 @@ impl<'f> Reader<'f> {
     fn opened(&self) -> Result<(), ReadFault>
         ensures { Opens result self.now }
     {
-        if self.part > 0 {
+        if self.part.is_some() {
             return Ok(());
         }
         if self.file.len() > MOST_BYTES {
@@ -76,7 +77,7 @@ impl<'f> Reader<'f> {
             return Err(ReadFault::UnknownCommand { place });
         };
         let next = place + 1 + opcode.size();
-        if opcode.part() < self.part {
+        if self.part.is_some_and(|reached| opcode.part() < reached) {
             return Err(ReadFault::EarlierPart { place });
         }
         if size < next {
@@ -97,7 +98,7 @@ impl<'f> Reader<'f> {
     {
         match taken {
             Command::Attribute { name, count } => self.may_declare(name, count),
-            Command::Operator { row } => self.may_add(row),
+            Command::Operator { digits } => self.may_add(digits),
             Command::Exclusion { first, second } => self.may_exclude(first, second),
             Command::AtMost { attribute, limit } => self.limits(attribute, limit),
             Command::AtLeast { attribute, limit } => self.limits(attribute, limit),
@@ -169,11 +170,11 @@ impl<'f> Reader<'f> {
                 self.attributes.push(Attribute { name, start, count });
                 self.pairs += count;
             }
-            Command::Operator { row } => self.operators.push(row),
+            Command::Operator { digits } => self.operators.push(Row { entries: *digits }),
             _ => {}
         }
         self.kinds.apply(checked.effect);
-        self.part = checked.part;
+        self.part = Some(checked.part);
         self.place = checked.next;
     }
 
