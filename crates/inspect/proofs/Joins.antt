@@ -1,5 +1,5 @@
 -- One piece of text after another.
-use Rattle.std.proofs.Common.{◌≡◌, ℕ, List, [], ◌++◌, Ok, Err, Result, sym, ap, ◌∙◌, subst, append_assoc, append-nil}
+use Rattle.std.proofs.Common.{◌≡◌, ℕ, List, [], ◌++◌, Ok, Err, Result, sym, ap, ◌∙◌, append_assoc, append-nil}
 use Rattle.inspect.specs.declared.text.Text.{Text}
 use Rattle.inspect.specs.Written.{written, Added, Adds}
 
@@ -23,6 +23,3 @@ whole {s} {t} {a} e f = f.is ∙ ap (λ l. l ++ a) e
 pub then_adds : {E : Type 0} {s t : Text} {a : List ℕ} (r : Result (Unit {0}) E) (u : Text) (b : List ℕ) → Added s t a → Adds r t u b → Adds r s u (a ++ b)
 then_adds (Ok v) u b e f = then e f
 then_adds (Err x) u b e f = tt
-
-pub named_adds : {E : Type 0} (r : Result (Unit {0}) E) (s t : Text) (a b : List ℕ) → a ≡ b → Adds r s t a → Adds r s t b
-named_adds r s t a b e f = subst (λ (l : List ℕ). Adds r s t l) e f

@@ -1,7 +1,6 @@
 pub mod Keeping
 pub mod Joins
 pub mod Naming
-pub mod Showing
 pub mod Parts
 pub mod Lining
 pub mod Stacking

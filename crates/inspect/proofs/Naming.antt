@@ -14,7 +14,7 @@ unfolding kept
 kept_change code = kept_cond (eqb code 0x00) (codes "not") _ refl (kept_cond (eqb code 0x01) (codes "E1") (codes "or-deny") refl refl)
 
 pub kept_operator : (code : ℕ) → kept (operator_name code) ≡ operator_name code
-unfolding kept
+unfolding kept operator_name
 kept_operator code =
     kept_cond (eqb code 0x10) (codes "and") _ refl (
     kept_cond (eqb code 0x11) (codes "weak-and") _ refl (

@@ -13,7 +13,7 @@ abbrev pub change_name : ℕ → List ℕ
 change_name code = cond (code == 0x00) (codes "not") (cond (code == 0x01) (codes "E1") (codes "or-deny"))
 
 -- a two-operand code
-abbrev pub operator_name : ℕ → List ℕ
+unfoldable pub operator_name : ℕ → List ℕ
 operator_name code =
     cond (code == 0x10) (codes "and") (
     cond (code == 0x11) (codes "weak-and") (

@@ -1,4 +1,6 @@
 // A line for each command of a file.
+#![tactic(auto, using(crate::proofs::Joins::then_adds), unfolding(crate::specs::Plain::kept))]
+
 ghost use Rattle.std.specs.Prelude.{◌≡◌, ◌++◌, codes, decimal};
 ghost use Rattle.policy.specs.View as view;
 ghost use Rattle.inspect.specs.Lines as lists;
@@ -6,128 +8,117 @@ ghost use Rattle.inspect.specs.Names as names;
 ghost use Rattle.inspect.specs.Plain.{kept};
 ghost use Rattle.inspect.specs.Written.{Adds};
 
-use crate::names::{attribute, change, constant, operator, pair};
 use crate::text::Text;
 use policy::{Command, Operator, Reader};
-use std::alloc::{AllocError, Global};
+use std::alloc::AllocError;
 
-fn declared(heap: Global, text: &mut Text, name: &[u8], count: u8) -> Result<(), AllocError>
-    ensures { Adds result text.old text.new (codes "attribute " ++ (kept name.now ++ (codes " " ++ decimal count))) }
-{
-    text.add("attribute ")?;
-    text.bytes(name)?;
-    text.add(" ")?;
-    text.number(heap, count as usize)
-}
-
-fn digits(heap: Global, text: &mut Text, digits: &[u8]) -> Result<(), AllocError>
-    ensures { Adds result text.old text.new (lists.digits_text digits.now) }
-{
-    for digit in digits {
-        text.number(heap, *digit as usize)?;
+impl Text {
+    fn declared(&mut self, name: &[u8], count: u8) -> Result<(), AllocError>
+        ensures { Adds result self.old self.new (codes "attribute " ++ (kept name.now ++ (codes " " ++ decimal count))) }
+    {
+        self.add("attribute ")?;
+        self.bytes(name)?;
+        self.add(" ")?;
+        self.number(count as usize)
     }
-    Ok(())
-}
 
-fn own(heap: Global, text: &mut Text, reader: &Reader, entries: &[u8]) -> Result<(), AllocError>
-    ensures { Adds result text.old text.new (codes "operator " ++ (names.operator_name (lists.newest_code (view.context reader.now)) ++ (codes " " ++ lists.digits_text entries.now))) }
-{
-    text.add("operator ")?;
-    // one is declared by now
-    let newest = reader.newest().unwrap_or(Operator::Op20);
-    text.add(operator(newest))?;
-    text.add(" ")?;
-    digits(heap, text, entries)
-}
-
-fn exclusion(
-    heap: Global,
-    text: &mut Text,
-    reader: &Reader,
-    first: u8,
-    second: u8,
-) -> Result<(), AllocError>
-    ensures { Adds result text.old text.new (codes "never " ++ (names.pair_text (view.context reader.now) first ++ (codes " and " ++ names.pair_text (view.context reader.now) second))) }
-{
-    text.add("never ")?;
-    pair(heap, text, reader, first)?;
-    text.add(" and ")?;
-    pair(heap, text, reader, second)
-}
-
-fn limit(
-    heap: Global,
-    text: &mut Text,
-    reader: &Reader,
-    words: &str,
-    limit: u8,
-    number: u8,
-) -> Result<(), AllocError>
-    ensures { Adds result text.old text.new (lists.limit_text (view.context reader.now) (kept words.now) limit number) }
-{
-    text.add(words)?;
-    text.number(heap, limit as usize)?;
-    text.add(" of ")?;
-    attribute(text, reader, number)
-}
-
-// What a command does, by a reader that has just taken it.
-fn operands(
-    heap: Global,
-    text: &mut Text,
-    reader: &Reader,
-    taken: Command,
-) -> Result<(), AllocError>
-    ensures { Adds result text.old text.new (lists.operands_text (view.context reader.now) (view.command taken.entry)) }
-{
-    match taken {
-        Command::Attribute { name, count } => declared(heap, text, name, count),
-        Command::Operator { digits } => own(heap, text, reader, digits),
-        Command::Exclusion { first, second } => exclusion(heap, text, reader, first, second),
-        Command::AtMost {
-            attribute,
-            limit: most,
-        } => limit(heap, text, reader, "at most ", most, attribute),
-        Command::AtLeast {
-            attribute,
-            limit: least,
-        } => limit(heap, text, reader, "at least ", least, attribute),
-        Command::Pair { pair: number } => {
-            text.add("pair ")?;
-            pair(heap, text, reader, number)
+    fn digits(&mut self, digits: &[u8]) -> Result<(), AllocError>
+        ensures { Adds result self.old self.new (lists.digits_text digits.now) }
+    {
+        for digit in digits {
+            self.number(*digit as usize)?;
         }
-        Command::Constant { decision } => text.add(constant(decision)),
-        Command::Change { change: with } => {
-            text.add("change ")?;
-            text.add(change(with))
-        }
-        Command::Combine { operator: with } => {
-            text.add("combine ")?;
-            text.add(operator(with))
-        }
-        Command::Guard => text.add("guard"),
-        Command::End => text.add("end"),
+        Ok(())
     }
-}
 
-// The line of a command that begins at this place.
-fn line(
-    heap: Global,
-    text: &mut Text,
-    reader: &Reader,
-    place: usize,
-    taken: Command,
-) -> Result<(), AllocError>
-    ensures { Adds result text.old text.new (lists.line_text (view.context reader.now) place (view.command taken.entry)) }
-{
-    text.number(heap, place)?;
-    text.add(" ")?;
-    operands(heap, text, reader, taken)?;
-    text.add("\n")
+    // The own operator that was declared last; one is declared by now.
+    fn newest(&mut self, reader: &Reader) -> Result<(), AllocError>
+        ensures { Adds result self.old self.new (names.operator_name (lists.newest_code (view.context reader.now))) }
+    {
+        self.operator(reader.newest().unwrap_or(Operator::Op20))
+    }
+
+    fn own(&mut self, reader: &Reader, entries: &[u8]) -> Result<(), AllocError>
+        ensures { Adds result self.old self.new (codes "operator " ++ (names.operator_name (lists.newest_code (view.context reader.now)) ++ (codes " " ++ lists.digits_text entries.now))) }
+    {
+        self.add("operator ")?;
+        self.newest(reader)?;
+        self.add(" ")?;
+        self.digits(entries)
+    }
+
+    fn exclusion(&mut self, reader: &Reader, first: u8, second: u8) -> Result<(), AllocError>
+        ensures { Adds result self.old self.new (codes "never " ++ (names.pair_text (view.context reader.now) first ++ (codes " and " ++ names.pair_text (view.context reader.now) second))) }
+    {
+        self.add("never ")?;
+        self.pair(reader, first)?;
+        self.add(" and ")?;
+        self.pair(reader, second)
+    }
+
+    fn limit(
+        &mut self,
+        reader: &Reader,
+        words: &str,
+        limit: u8,
+        number: u8,
+    ) -> Result<(), AllocError>
+        ensures { Adds result self.old self.new (lists.limit_text (view.context reader.now) (kept words.now) limit number) }
+    {
+        self.add(words)?;
+        self.number(limit as usize)?;
+        self.add(" of ")?;
+        self.attribute(reader, number)
+    }
+
+    // What a command does, by a reader that has just taken it.
+    fn operands(&mut self, reader: &Reader, taken: Command) -> Result<(), AllocError>
+        ensures { Adds result self.old self.new (lists.operands_text (view.context reader.now) (view.command taken.entry)) }
+    {
+        match taken {
+            Command::Attribute { name, count } => self.declared(name, count),
+            Command::Operator { digits } => self.own(reader, digits),
+            Command::Exclusion { first, second } => self.exclusion(reader, first, second),
+            Command::AtMost { attribute, limit } => self.limit(
+                reader, "at most ", limit, attribute,
+            ),
+            Command::AtLeast { attribute, limit } => self.limit(
+                reader,
+                "at least ",
+                limit,
+                attribute,
+            ),
+            Command::Pair { pair } => {
+                self.add("pair ")?;
+                self.pair(reader, pair)
+            }
+            Command::Constant { decision } => self.constant(decision),
+            Command::Change { change } => {
+                self.add("change ")?;
+                self.change(change)
+            }
+            Command::Combine { operator } => {
+                self.add("combine ")?;
+                self.operator(operator)
+            }
+            Command::Guard => self.add("guard"),
+            Command::End => self.add("end"),
+        }
+    }
+
+    // The line of a command that begins at this place.
+    fn line(&mut self, reader: &Reader, place: usize, taken: Command) -> Result<(), AllocError>
+        ensures { Adds result self.old self.new (lists.line_text (view.context reader.now) place (view.command taken.entry)) }
+    {
+        self.number(place)?;
+        self.add(" ")?;
+        self.operands(reader, taken)?;
+        self.add("\n")
+    }
 }
 
 // The lines of all commands ahead of a reader, up to the end of the file or to its first fault.
-pub(crate) fn lines(heap: Global, text: &mut Text, reader: &mut Reader) -> Result<(), AllocError>
+pub(crate) fn lines(text: &mut Text, reader: &mut Reader) -> Result<(), AllocError>
     ensures { lists.Lists result text.old text.new reader.old reader.new }
 {
     loop {
@@ -135,6 +126,6 @@ pub(crate) fn lines(heap: Global, text: &mut Text, reader: &mut Reader) -> Resul
         let Ok(taken) = reader.next() else {
             return Ok(());
         };
-        line(heap, text, reader, place, taken)?;
+        text.line(reader, place, taken)?;
     }
 }

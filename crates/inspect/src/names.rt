@@ -1,4 +1,6 @@
 // What operators, decisions, attributes and pairs are called.
+#![tactic(auto, using(crate::proofs::Joins::then_adds, crate::proofs::Naming::kept_change, crate::proofs::Naming::kept_operator, crate::proofs::Naming::kept_constant), unfolding(crate::specs::Plain::kept))]
+
 ghost use Rattle.std.specs.Prelude.{◌≡◌};
 ghost use Rattle.policy.specs.Codes.{change_code, operator_code};
 ghost use Rattle.policy.specs.View as view;
@@ -7,9 +9,9 @@ ghost use Rattle.inspect.specs.Written.{Adds};
 
 use crate::text::Text;
 use policy::{Change, Decision, Operator, Reader};
-use std::alloc::{AllocError, Global};
+use std::alloc::AllocError;
 
-pub(crate) fn change(change: Change) -> &'static str
+fn change_name(change: Change) -> &'static str
     ensures { result.now ≡ names.change_name (change_code change) }
 {
     match change {
@@ -19,7 +21,8 @@ pub(crate) fn change(change: Change) -> &'static str
     }
 }
 
-pub(crate) fn operator(operator: Operator) -> &'static str
+#[tactic(auto, unfolding(crate::specs::Names::operator_name))]
+fn operator_name(operator: Operator) -> &'static str
     ensures { result.now ≡ names.operator_name (operator_code operator) }
 {
     match operator {
@@ -40,7 +43,7 @@ pub(crate) fn operator(operator: Operator) -> &'static str
     }
 }
 
-pub(crate) fn constant(decision: Decision) -> &'static str
+fn constant_name(decision: Decision) -> &'static str
     ensures { result.now ≡ names.constant_name decision }
 {
     match decision {
@@ -50,29 +53,44 @@ pub(crate) fn constant(decision: Decision) -> &'static str
     }
 }
 
-// The name of an attribute, without the 00 bytes that fill it up.
-pub(crate) fn attribute(text: &mut Text, reader: &Reader, number: u8) -> Result<(), AllocError>
-    ensures { Adds result text.old text.new (names.attribute_text (view.context reader.now) number) }
-{
-    match reader.attribute(number) {
-        Some(attribute) => text.bytes(attribute.name),
-        None => Ok(()),
+impl Text {
+    pub(crate) fn change(&mut self, change: Change) -> Result<(), AllocError>
+        ensures { Adds result self.old self.new (names.change_name (change_code change)) }
+    {
+        self.add(change_name(change))
     }
-}
 
-// The name of an attribute, and the number of a value within it. No pair is below the start of its attribute.
-pub(crate) fn pair(
-    heap: Global,
-    text: &mut Text,
-    reader: &Reader,
-    number: u8,
-) -> Result<(), AllocError>
-    ensures { Adds result text.old text.new (names.pair_text (view.context reader.now) number) }
-{
-    let Some(attribute) = reader.attribute_with(number) else {
-        return Ok(());
-    };
-    text.bytes(attribute.name)?;
-    text.add("=")?;
-    text.number(heap, number.saturating_sub(attribute.start) as usize)
+    pub(crate) fn operator(&mut self, operator: Operator) -> Result<(), AllocError>
+        ensures { Adds result self.old self.new (names.operator_name (operator_code operator)) }
+    {
+        self.add(operator_name(operator))
+    }
+
+    pub(crate) fn constant(&mut self, decision: Decision) -> Result<(), AllocError>
+        ensures { Adds result self.old self.new (names.constant_name decision) }
+    {
+        self.add(constant_name(decision))
+    }
+
+    // The name of an attribute, without the 00 bytes that fill it up.
+    pub(crate) fn attribute(&mut self, reader: &Reader, number: u8) -> Result<(), AllocError>
+        ensures { Adds result self.old self.new (names.attribute_text (view.context reader.now) number) }
+    {
+        match reader.attribute(number) {
+            Some(attribute) => self.bytes(attribute.name),
+            None => Ok(()),
+        }
+    }
+
+    // The name of an attribute, and the number of a value within it. No pair is below the start of its attribute.
+    pub(crate) fn pair(&mut self, reader: &Reader, number: u8) -> Result<(), AllocError>
+        ensures { Adds result self.old self.new (names.pair_text (view.context reader.now) number) }
+    {
+        let Some(attribute) = reader.attribute_with(number) else {
+            return Ok(());
+        };
+        self.bytes(attribute.name)?;
+        self.add("=")?;
+        self.number(number.saturating_sub(attribute.start) as usize)
+    }
 }

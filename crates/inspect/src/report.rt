@@ -1,4 +1,6 @@
 // What is printed of a file.
+#![tactic(auto, using(crate::proofs::Joins::then, crate::proofs::Joins::whole), unfolding(crate::specs::Plain::kept))]
+
 ghost use Rattle.std.specs.Prelude.{◌≡◌, true, IfOk, IsOkUnless, OnOk};
 ghost use Rattle.policy.specs.Reading.{reads};
 ghost use Rattle.policy.specs.Refusals as refusals;
@@ -12,7 +14,6 @@ ghost use Rattle.inspect.specs.Written.{written};
 use crate::failure::Failure;
 use crate::formula::formula;
 use crate::lines::lines;
-use crate::show;
 use crate::text::Text;
 use policy::{ReadFault, Reader, check};
 use std::alloc::{AllocError, Global};
@@ -23,9 +24,9 @@ fn refusal(heap: Global, fault: ReadFault) -> Result<Text, AllocError>
 {
     let mut text = Text::new(heap);
     text.add("refused 1 ")?;
-    text.number(heap, fault.number() as usize)?;
+    text.number(fault.number() as usize)?;
     text.add(" ")?;
-    text.number(heap, fault.place())?;
+    text.number(fault.place())?;
     text.add("\n")?;
     Ok(text)
 }
@@ -37,7 +38,7 @@ fn add_formula(heap: Global, text: &mut Text, reader: &Reader, file: &[u8]) -> R
 {
     text.add("formula: ")?;
     let policy = formula(heap, file)?;
-    show::policy(heap, text, reader, &policy)?;
+    text.policy(reader, &policy)?;
     Ok(())
 }
 
@@ -48,10 +49,10 @@ fn account(heap: Global, file: &[u8], pairs: u8) -> Result<Text, Failure>
 {
     let mut text = Text::new(heap);
     let mut reader = Reader::new(file);
-    lines(heap, &mut text, &mut reader)?;
+    lines(&mut text, &mut reader)?;
     add_formula(heap, &mut text, &reader, file)?;
     text.add("\npairs ")?;
-    text.number(heap, pairs as usize)?;
+    text.number(pairs as usize)?;
     text.add("\n")?;
     Ok(text)
 }

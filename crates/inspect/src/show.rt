@@ -1,66 +1,64 @@
 // The formula of a policy with infix operators.
+#![tactic(auto, using(crate::proofs::Joins::then_adds), unfolding(crate::specs::Plain::kept))]
+
 ghost use Rattle.policy.specs.View as view;
 ghost use Rattle.inspect.specs.Formulas.{target_text, policy_text};
 ghost use Rattle.inspect.specs.Written.{Adds};
 
 use crate::formula::{Policy, Target};
-use crate::names::{change, constant, operator, pair};
 use crate::text::Text;
 use policy::Reader;
-use std::alloc::{AllocError, Global};
+use std::alloc::AllocError;
 
-fn target(heap: Global, text: &mut Text, reader: &Reader, shown: &Target) -> Result<(), AllocError>
-    ensures { Adds result text.old text.new (target_text (view.context reader.now) shown.now) }
-{
-    match shown {
-        Target::Pair(number) => pair(heap, text, reader, *number),
-        Target::Change(by, inner) => {
-            text.add(change(*by))?;
-            text.add(" ")?;
-            target(heap, text, reader, inner)
-        }
-        Target::Combine(by, first, second) => {
-            text.add("(")?;
-            target(heap, text, reader, first)?;
-            text.add(" ")?;
-            text.add(operator(*by))?;
-            text.add(" ")?;
-            target(heap, text, reader, second)?;
-            text.add(")")
+impl Text {
+    fn target(&mut self, reader: &Reader, shown: &Target) -> Result<(), AllocError>
+        ensures { Adds result self.old self.new (target_text (view.context reader.now) shown.now) }
+    {
+        match shown {
+            Target::Pair(number) => self.pair(reader, *number),
+            Target::Change(change, inner) => {
+                self.change(*change)?;
+                self.add(" ")?;
+                self.target(reader, inner)
+            }
+            Target::Combine(operator, first, second) => {
+                self.add("(")?;
+                self.target(reader, first)?;
+                self.add(" ")?;
+                self.operator(*operator)?;
+                self.add(" ")?;
+                self.target(reader, second)?;
+                self.add(")")
+            }
         }
     }
-}
 
-pub(crate) fn policy(
-    heap: Global,
-    text: &mut Text,
-    reader: &Reader,
-    shown: &Policy,
-) -> Result<(), AllocError>
-    ensures { Adds result text.old text.new (policy_text (view.context reader.now) shown.now) }
-{
-    match shown {
-        Policy::Always(decision) => text.add(constant(*decision)),
-        Policy::Change(by, inner) => {
-            text.add(change(*by))?;
-            text.add(" ")?;
-            policy(heap, text, reader, inner)
-        }
-        Policy::Combine(by, first, second) => {
-            text.add("(")?;
-            policy(heap, text, reader, first)?;
-            text.add(" ")?;
-            text.add(operator(*by))?;
-            text.add(" ")?;
-            policy(heap, text, reader, second)?;
-            text.add(")")
-        }
-        Policy::Guard(guard, inner) => {
-            text.add("(")?;
-            target(heap, text, reader, guard)?;
-            text.add(" => ")?;
-            policy(heap, text, reader, inner)?;
-            text.add(")")
+    pub(crate) fn policy(&mut self, reader: &Reader, shown: &Policy) -> Result<(), AllocError>
+        ensures { Adds result self.old self.new (policy_text (view.context reader.now) shown.now) }
+    {
+        match shown {
+            Policy::Always(decision) => self.constant(*decision),
+            Policy::Change(change, inner) => {
+                self.change(*change)?;
+                self.add(" ")?;
+                self.policy(reader, inner)
+            }
+            Policy::Combine(operator, first, second) => {
+                self.add("(")?;
+                self.policy(reader, first)?;
+                self.add(" ")?;
+                self.operator(*operator)?;
+                self.add(" ")?;
+                self.policy(reader, second)?;
+                self.add(")")
+            }
+            Policy::Guard(guard, inner) => {
+                self.add("(")?;
+                self.target(reader, guard)?;
+                self.add(" => ")?;
+                self.policy(reader, inner)?;
+                self.add(")")
+            }
         }
     }
 }

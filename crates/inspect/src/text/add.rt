@@ -53,9 +53,10 @@ impl Text {
         self.bytes(words.as_bytes())
     }
 
-    pub(crate) fn number(&mut self, heap: Global, number: usize) -> Result<(), AllocError>
+    pub(crate) fn number(&mut self, number: usize) -> Result<(), AllocError>
         ensures { Adds result self.old self.new (decimal number) }
     {
+        let heap = *self.text.allocator();
         let digits = number.to_string(heap)?;
         self.add(digits.as_str())
     }

@@ -27,4 +27,4 @@ loop-taken-preserved c =
     let x = c.in-Ok.taken in
     let e = c.in-Ok.ensures in
     let line = named (ap (λ (p : ℕ). line_text (context s) p (command x)) c.place-place.ensures) c.in_ok-line.ensures in
-    one_more c.loop-taken.invariant x s c.line.new.text e.is e.same line
+    one_more c.loop-taken.invariant x s c.line.new.self e.is e.same line
