@@ -41,9 +41,6 @@ pub record Sofar (old new : Text) (first last : Reader) : Type 0 where
   pub rest : lines_text (context first) (place first) (ahead first).commands ≡ seen ++ lines_text (context last) (place last) (ahead last).commands
   pub known : after (context last) (ahead last).commands ≡ after (context first) (ahead first).commands
 
-pub none_yet : (t : Text) (r : Reader) → Sofar t t r r
-none_yet t r = record { seen = []; text = nothing t; rest = refl; known = refl }
-
 lines_none : (x : c.Context) (p : ℕ) → lines_text x p [] ≡ []
 unfolding lines_text
 lines_none x p = refl

@@ -10,11 +10,10 @@ kept_cond true x y e f = e
 kept_cond false x y e f = f
 
 pub kept_change : (code : ℕ) → kept (change_name code) ≡ change_name code
-unfolding kept
 kept_change code = kept_cond (eqb code 0x00) (codes "not") _ refl (kept_cond (eqb code 0x01) (codes "E1") (codes "or-deny") refl refl)
 
 pub kept_operator : (code : ℕ) → kept (operator_name code) ≡ operator_name code
-unfolding kept operator_name
+unfolding operator_name
 kept_operator code =
     kept_cond (eqb code 0x10) (codes "and") _ refl (
     kept_cond (eqb code 0x11) (codes "weak-and") _ refl (
@@ -31,7 +30,6 @@ kept_operator code =
     kept_cond (eqb code 0x26) (codes "op26") (codes "op27") refl refl))))))))))))
 
 pub kept_constant : (d : Decision) → kept (constant_name d) ≡ constant_name d
-unfolding kept
 kept_constant Deny = refl
 kept_constant Allow = refl
 kept_constant NotApplicable = refl

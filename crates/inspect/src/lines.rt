@@ -1,5 +1,5 @@
 // A line for each command of a file.
-#![tactic(auto, using(crate::proofs::Joins::then_adds), unfolding(crate::specs::Plain::kept))]
+#![tactic(auto, using(crate::proofs::Joins::then_adds))]
 
 ghost use Rattle.std.specs.Prelude.{◌≡◌, ◌++◌, codes, decimal};
 ghost use Rattle.policy.specs.View as view;

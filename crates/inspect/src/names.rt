@@ -1,5 +1,5 @@
 // What operators, decisions, attributes and pairs are called.
-#![tactic(auto, using(crate::proofs::Joins::then_adds, crate::proofs::Naming::kept_change, crate::proofs::Naming::kept_operator, crate::proofs::Naming::kept_constant), unfolding(crate::specs::Plain::kept))]
+#![tactic(auto, using(crate::proofs::Joins::then_adds, crate::proofs::Naming::kept_change, crate::proofs::Naming::kept_operator, crate::proofs::Naming::kept_constant))]
 
 ghost use Rattle.std.specs.Prelude.{◌≡◌};
 ghost use Rattle.policy.specs.Codes.{change_code, operator_code};

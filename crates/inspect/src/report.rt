@@ -1,5 +1,5 @@
 // What is printed of a file.
-#![tactic(auto, using(crate::proofs::Joins::then, crate::proofs::Joins::whole), unfolding(crate::specs::Plain::kept))]
+#![tactic(auto, using(crate::proofs::Joins::then, crate::proofs::Joins::whole))]
 
 ghost use Rattle.std.specs.Prelude.{◌≡◌, true, IfOk, IsOkUnless, OnOk};
 ghost use Rattle.policy.specs.Reading.{reads};

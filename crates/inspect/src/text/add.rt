@@ -53,6 +53,7 @@ impl Text {
         self.bytes(words.as_bytes())
     }
 
+    #[tactic(auto, using(crate::proofs::Keeping::kept_decimal))]
     pub(crate) fn number(&mut self, number: usize) -> Result<(), AllocError>
         ensures { Adds result self.old self.new (decimal number) }
     {

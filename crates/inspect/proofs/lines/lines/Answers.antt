@@ -3,11 +3,8 @@ use Rattle.policy.specs.View.{context, command}
 use Rattle.policy.proofs.Readers.{place_moves, place_within}
 use Rattle.inspect.specs.Lines.{line_text}
 use Rattle.inspect.proofs.Joins.{named}
-use Rattle.inspect.proofs.Lining.{none_yet, one_more, no_more}
+use Rattle.inspect.proofs.Lining.{one_more, no_more}
 use Rattle.inspect.proofs.lines.lines.Goals as goal
-
-pub loop-taken-init : goal.loop-taken-init
-loop-taken-init c = none_yet _ _
 
 pub returns-in_default : goal.returns-in_default
 returns-in_default c =

@@ -1,13 +1,11 @@
 use Rattle.std.proofs.Common.{codes, ◌∙◌, append_assoc}
 use Rattle.policy.specs.View.{context}
 use Rattle.inspect.specs.Formulas.{policy_text}
-use Rattle.inspect.specs.Plain.{kept}
 use Rattle.inspect.proofs.Joins.{then, whole, named}
 use Rattle.inspect.proofs.Reporting.{new_lines, new_known, accounted}
 use Rattle.inspect.proofs.report.account.Goals as goal
 
 pub returns-clause-exact : goal.returns-clause-exact
-unfolding kept
 returns-clause-exact c =
     let file = c.args.file.now in
     let n = c.new-reader.ensures in

@@ -1,7 +1,7 @@
 use Rattle.std.proofs.Common.{◌≡◌, List, [], ◌∷◌, ◌++◌, vec_items, Err, Result, sym, refl, ap, ◌∙◌, subst, Some, None, Option}
 use Rattle.std.proofs.lemmas.Result.{err_from_is_err_and}
 use Rattle.policy.specs.Commands.{Command, Context}
-use Rattle.policy.specs.Reading.{Item, commands_of, reads}
+use Rattle.policy.specs.Reading.{commands_of, reads}
 use Rattle.policy.specs.declared.command.Command as k
 use Rattle.policy.specs.declared.commands.Commands.{Commands}
 use Rattle.policy.specs.View.{command, to_come, Yields}
@@ -10,35 +10,14 @@ use Rattle.inspect.specs.declared.failure.Failure.TheVariants.{Items}
 use Rattle.inspect.specs.declared.formula.Policy.{Policy}
 use Rattle.inspect.specs.declared.formula.Item as i
 use Rattle.inspect.specs.declared.formula.Item.TheVariants as item_of_kind
-use Rattle.inspect.specs.Kinds.{kinds}
 use Rattle.inspect.specs.Trees.{stack}
-use Rattle.inspect.proofs.Allowing.{kinds_under, then_kinds, refused_items, needs, not_refused, not_left, none_left, target_left}
+use Rattle.inspect.proofs.Allowing.{refused_items, needs, not_refused, not_left, none_left, target_left}
 use Rattle.inspect.proofs.Stacking.{stack_under, all_declared, finished}
 use Rattle.inspect.proofs.formula.build.formula.Goals as goal
 
 -- what a call of `next` gave
 gave : (old new : Commands) (r r' : Option k.Command) → r ≡ r' → Yields old r new → Yields old r' new
 gave old new r r' e y = subst (λ (o : Option k.Command). Yields old o new) e y
-
-pub loop-command-init : goal.loop-command-init
-loop-command-init c =
-    let x : Context = all_declared c.args.file.now in
-    record {
-      tree = ap (λ (cs : List Command). stack_under x cs (stack x (vec_items c.new-items.result))) (ap to_come c.into_iter-command-iterator.ensures.into_iter_gives ∙ c.of-command-items.ensures) ∙
-          ap (λ (l : List i.Item). stack_under x (commands_of c.args.file.now) (stack x l)) c.new-items.ensures.items;
-      kinds = ap (λ (cs : List Command). kinds_under cs (kinds (vec_items c.new-items.result))) (ap to_come c.into_iter-command-iterator.ensures.into_iter_gives ∙ c.of-command-items.ensures) ∙
-          ap (λ (l : List i.Item). kinds_under (commands_of c.args.file.now) (kinds l)) c.new-items.ensures.items;
-    }
-
-pub loop-command-preserved : goal.loop-command-preserved
-loop-command-preserved c =
-    let x : Context = all_declared c.args.file.now in
-    record {
-      tree = ap (λ (s : List Item). stack_under x (to_come c.next.new.self) s) (c.in_ok-act.ensures.tree x) ∙
-          sym (ap (λ (cs : List Command). stack_under x cs (stack x (vec_items c.loop-command.items))) (gave c.loop-command.command-iterator c.next.new.self c.next.result (Some c.in-Some.command) c.in-Some.is c.next.ensures.steps).0) ∙ c.loop-command.invariant.tree;
-      kinds = sym (ap (λ o. then_kinds o (kinds_under (to_come c.next.new.self))) c.in_ok-act.ensures.kinds) ∙
-          sym (ap (λ (cs : List Command). kinds_under cs (kinds (vec_items c.loop-command.items))) (gave c.loop-command.command-iterator c.next.new.self c.next.result (Some c.in-Some.command) c.in-Some.is c.next.ensures.steps).0) ∙ c.loop-command.invariant.kinds;
-    }
 
 pub returns-in_err-act-clause-memory : goal.returns-in_err-act-clause-memory
 returns-in_err-act-clause-memory c =
