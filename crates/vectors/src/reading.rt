@@ -1,41 +1,21 @@
 // Files that read well, and files that are refused: number and place of every refusal.
-use policy::{Commands, check, nationality};
+use policy::{Attribute, Commands, Row, check, nationality};
 use std::alloc::Global;
 use std::process::Abort;
 use std::test::Fail;
 
-// A file, and the refusal that it gets.
-struct Refused {
+// What a file comes to: its number of pairs, or the refusal's number and place.
+type Reading = Result<u8, (u8, usize)>;
+
+// A file, and what it comes to.
+struct Case {
     file: &'static [u8],
-    number: u8,
-    place: usize,
+    reading: Reading,
 }
 
-// A file that reads well, and its number of pairs.
-struct Well {
-    file: &'static [u8],
-    pairs: u8,
-}
-
-fn refuses(rt: &impl Abort, file: &[u8], number: u8, place: usize) -> Result<(), Fail> {
-    match check(file) {
-        Ok(_) => Err(Fail::new("it reads well")),
-        Err(fault) => {
-            assert_eq!(rt; fault.number(), number);
-            assert_eq!(rt; fault.place(), place);
-            Ok(())
-        }
-    }
-}
-
-fn reads(rt: &impl Abort, file: &[u8], pairs: u8) -> Result<(), Fail> {
-    match check(file) {
-        Ok(n) => {
-            assert_eq!(rt; n, pairs);
-            Ok(())
-        },
-        Err(_) => Err(Fail::new("it is refused")),
-    }
+fn comes_to(rt: &impl Abort, file: &[u8], reading: Reading) {
+    let answer = check(file).map_err(|fault| (fault.number(), fault.place()));
+    assert_eq!(rt; answer, reading);
 }
 
 // The nationality file with one byte changed.
@@ -51,170 +31,151 @@ fn with(heap: Global, place: usize, byte: u8) -> Result<Vec<u8>, Fail> {
 fn damaged_nationality_files(rt: HostRuntime) -> Result<(), Fail> {
     let heap = rt.alloc();
     let file = nationality();
-    reads(&rt, file, 2)?;
-    refuses(&rt, &file[0..28], 4, 28)?;
-    refuses(&rt, &file[0..3], 3, 3)?;
-    refuses(&rt, &file[0..0], 3, 0)?;
-    refuses(&rt, &file[0..5], 4, 5)?;
-    refuses(&rt, &file[0..14], 4, 14)?;
-    refuses(&rt, &file[0..15], 4, 15)?;
+    comes_to(&rt, file, Ok(2));
+    comes_to(&rt, &file[0..28], Err((4, 28)));
+    comes_to(&rt, &file[0..3], Err((3, 3)));
+    comes_to(&rt, &file[0..0], Err((3, 0)));
+    comes_to(&rt, &file[0..5], Err((4, 5)));
+    comes_to(&rt, &file[0..14], Err((4, 14)));
+    comes_to(&rt, &file[0..15], Err((4, 15)));
     let mut longer = file.to_vec(heap)?;
     longer.push(0)?;
-    refuses(&rt, longer.as_slice(), 10, 29)?;
-    refuses(&rt, with(heap, 17, 3)?.as_slice(), 7, 15)?;
-    reads(&rt, with(heap, 14, 0x30)?.as_slice(), 48)?;
-    refuses(&rt, with(heap, 14, 0x31)?.as_slice(), 7, 5)?;
-    refuses(&rt, with(heap, 14, 0)?.as_slice(), 7, 5)?;
-    refuses(&rt, with(heap, 14, 1)?.as_slice(), 7, 22)?;
-    refuses(&rt, with(heap, 6, 0)?.as_slice(), 7, 5)
+    comes_to(&rt, longer.as_slice(), Err((10, 29)));
+    comes_to(&rt, with(heap, 17, 3)?.as_slice(), Err((7, 15)));
+    comes_to(&rt, with(heap, 14, 0x30)?.as_slice(), Ok(48));
+    comes_to(&rt, with(heap, 14, 0x31)?.as_slice(), Err((7, 5)));
+    comes_to(&rt, with(heap, 14, 0)?.as_slice(), Err((7, 5)));
+    comes_to(&rt, with(heap, 14, 1)?.as_slice(), Err((7, 22)));
+    comes_to(&rt, with(heap, 6, 0)?.as_slice(), Err((7, 5)));
+    Ok(())
 }
 
 #[test]
 fn damaged_commands(rt: HostRuntime) -> Result<(), Fail> {
     let heap = rt.alloc();
-    refuses(&rt, with(heap, 4, 2)?.as_slice(), 3, 4)?;
-    refuses(&rt, with(heap, 15, 0)?.as_slice(), 5, 15)?;
-    refuses(&rt, with(heap, 20, 0x58)?.as_slice(), 6, 20)?;
-    refuses(&rt, with(heap, 20, 0x67)?.as_slice(), 8, 20)?;
-    refuses(&rt, with(heap, 27, 0x20)?.as_slice(), 7, 26)?;
-    refuses(&rt, with(heap, 7, 0x7f)?.as_slice(), 7, 5)?;
-    refuses(&rt, with(heap, 8, 0x20)?.as_slice(), 7, 5)?;
-    refuses(&rt, with(heap, 10, 0x21)?.as_slice(), 7, 5)
+    comes_to(&rt, with(heap, 4, 2)?.as_slice(), Err((3, 4)));
+    comes_to(&rt, with(heap, 15, 0)?.as_slice(), Err((5, 15)));
+    comes_to(&rt, with(heap, 20, 0x58)?.as_slice(), Err((6, 20)));
+    comes_to(&rt, with(heap, 20, 0x67)?.as_slice(), Err((8, 20)));
+    comes_to(&rt, with(heap, 27, 0x20)?.as_slice(), Err((7, 26)));
+    comes_to(&rt, with(heap, 7, 0x7f)?.as_slice(), Err((7, 5)));
+    comes_to(&rt, with(heap, 8, 0x20)?.as_slice(), Err((7, 5)));
+    comes_to(&rt, with(heap, 10, 0x21)?.as_slice(), Err((7, 5)));
+    Ok(())
 }
 
 #[test]
 fn the_longest_file(rt: HostRuntime) -> Result<(), Fail> {
     let heap = rt.alloc();
     let long = vec![in heap; 0; 65536]?;
-    refuses(&rt, long.as_slice(), 2, 0)?;
-    refuses(&rt, &long.as_slice()[0..65535], 3, 0)
+    comes_to(&rt, long.as_slice(), Err((2, 0)));
+    comes_to(&rt, &long.as_slice()[0..65535], Err((3, 0)));
+    Ok(())
 }
 
 // Each of these files is short enough to be read by eye; the opening is the first five bytes of each.
-const REFUSED: [Refused; 15] = [
+const CASES: [Case; 19] = [
     // the end with nothing on the stack
-    Refused {
+    Case {
         file: b"PTAC\x01.",
-        number: 10,
-        place: 5,
+        reading: Err((10, 5)),
     },
     // a target at the end
-    Refused {
+    Case {
         file: b"PTAC\x01Aa\0\0\0\0\0\0\0\x01t\0.",
-        number: 10,
-        place: 17,
+        reading: Err((10, 17)),
     },
     // the same name twice
-    Refused {
+    Case {
         file: b"PTAC\x01Aa\0\0\0\0\0\0\0\x01Aa\0\0\0\0\0\0\0\x01",
-        number: 7,
-        place: 15,
+        reading: Err((7, 15)),
     },
     // a digit above 2
-    Refused {
+    Case {
         file: b"PTAC\x01O\0\0\0\0\0\0\0\0\x03",
-        number: 7,
-        place: 5,
+        reading: Err((7, 5)),
     },
     // the own operator 21 where only 20 is declared
-    Refused {
+    Case {
         file: b"PTAC\x01O\0\0\0\0\0\0\0\0\01b\x21",
-        number: 7,
-        place: 16,
+        reading: Err((7, 16)),
     },
     // a code between the standard operators and the own ones, on an empty stack: 7 comes before 8
-    Refused {
+    Case {
         file: b"PTAC\x01b\x16",
-        number: 7,
-        place: 5,
+        reading: Err((7, 5)),
     },
     // a guard over two policies
-    Refused {
+    Case {
         file: b"PTAC\x0111g",
-        number: 8,
-        place: 7,
+        reading: Err((8, 7)),
     },
     // a policy below a target
-    Refused {
+    Case {
         file: b"PTAC\x01Aa\0\0\0\0\0\0\0\x011t\0g",
-        number: 8,
-        place: 18,
+        reading: Err((8, 18)),
     },
     // a target and a policy combined
-    Refused {
+    Case {
         file: b"PTAC\x01Aa\0\0\0\0\0\0\0\x01t\01b\x10",
-        number: 8,
-        place: 18,
+        reading: Err((8, 18)),
     },
     // nothing to change
-    Refused {
+    Case {
         file: b"PTAC\x01n\0",
-        number: 8,
-        place: 5,
+        reading: Err((8, 5)),
     },
     // a one-operand code above 2
-    Refused {
+    Case {
         file: b"PTAC\x011n\x03",
-        number: 7,
-        place: 6,
+        reading: Err((7, 6)),
     },
     // an attribute after a policy, which is also cut short: 6 comes before 4
-    Refused {
+    Case {
         file: b"PTAC\x011A",
-        number: 6,
-        place: 6,
+        reading: Err((6, 6)),
     },
     // a pair that excludes itself
-    Refused {
+    Case {
         file: b"PTAC\x01Aa\0\0\0\0\0\0\0\x02X\x01\x01",
-        number: 7,
-        place: 15,
+        reading: Err((7, 15)),
     },
     // no such attribute
-    Refused {
+    Case {
         file: b"PTAC\x01Aa\0\0\0\0\0\0\0\x02L\x01\0",
-        number: 7,
-        place: 15,
+        reading: Err((7, 15)),
     },
     // seventeen items
-    Refused {
+    Case {
         file: b"PTAC\x0111111111111111111",
-        number: 9,
-        place: 21,
+        reading: Err((9, 21)),
     },
-];
-
-const WELL: [Well; 4] = [
-    Well {
+    Case {
         file: b"PTAC\x011.",
-        pairs: 0,
+        reading: Ok(0),
     },
     // sixteen items, and then fifteen combinations
-    Well {
+    Case {
         file: b"PTAC\x011111111111111111b\x10b\x10b\x10b\x10b\x10b\x10b\x10b\x10b\x10b\x10b\x10b\x10b\x10b\x10b\x10.",
-        pairs: 0,
+        reading: Ok(0),
     },
     // a name of eight letters, and a limit that is the count
-    Well {
+    Case {
         file: b"PTAC\x01Aabcdefgh\x03M\0\x030.",
-        pairs: 3,
+        reading: Ok(3),
     },
     // an own operator in use
-    Well {
+    Case {
         file: b"PTAC\x01O\0\0\0\0\0\0\0\0\010b\x20.",
-        pairs: 0,
+        reading: Ok(0),
     },
 ];
 
 #[test]
-fn small_files(rt: HostRuntime) -> Result<(), Fail> {
-    for case in &REFUSED {
-        refuses(&rt, case.file, case.number, case.place)?;
+fn small_files(rt: HostRuntime) {
+    for case in &CASES {
+        comes_to(&rt, case.file, case.reading);
     }
-    for case in &WELL {
-        reads(&rt, case.file, case.pairs)?;
-    }
-    Ok(())
 }
 
 #[test]
@@ -223,29 +184,25 @@ fn nine_own_operators(rt: HostRuntime) -> Result<(), Fail> {
     for _ in 0..9 {
         file.extend_from_slice(b"O\0\0\0\0\0\0\0\0\0")?;
     }
-    refuses(&rt, file.as_slice(), 7, 85)
+    comes_to(&rt, file.as_slice(), Err((7, 85)));
+    Ok(())
 }
 
 // A second pass meets a command at each of these places, the last of them the end, and then no more.
 #[test]
-fn commands_of_the_nationality_file(rt: HostRuntime) -> Result<(), Fail> {
+fn commands_of_the_nationality_file(rt: HostRuntime) {
     let mut commands = Commands::of(nationality());
     for place in [5, 15, 18, 20, 21, 22, 24, 25, 26, 28] {
         assert_eq!(rt; commands.reader().place(), place);
-        match commands.next() {
-            Some(command) => assert_eq!(rt; command.is_end(), place == 28),
-            None => return Err(Fail::new("a command is missing")),
-        }
+        let ends = commands.next().map(|command| command.is_end());
+        assert_eq!(rt; ends, Some(place == 28));
     }
-    match commands.next() {
-        Some(_) => Err(Fail::new("a command after the end")),
-        None => Ok(()),
-    }
+    assert_eq!(rt; commands.next(), None);
 }
 
 // What the declarations of a file say: its attributes by number and by pair, and its operators by code.
 #[test]
-fn declarations(rt: HostRuntime) -> Result<(), Fail> {
+fn declarations(rt: HostRuntime) {
     let file = b"PTAC\x01Aa\0\0\0\0\0\0\0\x02Abcdefghi\x03O\x02\0\0\0\x01\0\0\0\x021.";
     let mut commands = Commands::of(file);
     for _ in 0..3 {
@@ -253,24 +210,21 @@ fn declarations(rt: HostRuntime) -> Result<(), Fail> {
     }
     let reader = commands.reader();
     assert_eq!(rt; reader.pairs(), 5);
-    match reader.attribute(1) {
-        Some(attribute) => {
-            assert_eq!(rt; attribute.name, b"bcdefghi".as_slice());
-            assert_eq!(rt; attribute.start, 2);
-            assert_eq!(rt; attribute.count, 3);
-        }
-        None => return Err(Fail::new("no attribute 1")),
-    }
-    assert_eq!(rt; reader.attribute(2).is_none(), true);
-    match reader.attribute_with(1) {
-        Some(attribute) => assert_eq!(rt; attribute.start, 0),
-        None => return Err(Fail::new("no attribute with pair 1")),
-    }
-    assert_eq!(rt; reader.attribute_with(5).is_none(), true);
-    match reader.row(0x20) {
-        Some(row) => assert_eq!(rt; row.entries, [2, 0, 0, 0, 1, 0, 0, 0, 2]),
-        None => return Err(Fail::new("no operator 20")),
-    }
-    assert_eq!(rt; reader.row(0x21).is_none(), true);
-    Ok(())
+    let second = Attribute {
+        name: b"bcdefghi".as_slice(),
+        start: 2,
+        count: 3,
+    };
+    assert_eq!(rt; reader.attribute(1), Some(second));
+    assert_eq!(rt; reader.attribute(2), None);
+    assert_eq!(rt;
+        reader.attribute_with(1).map(|attribute| attribute.start),
+        Some(0)
+    );
+    assert_eq!(rt; reader.attribute_with(5), None);
+    let own = Row {
+        entries: [2, 0, 0, 0, 1, 0, 0, 0, 2],
+    };
+    assert_eq!(rt; reader.row(0x20), Some(own));
+    assert_eq!(rt; reader.row(0x21), None);
 }
