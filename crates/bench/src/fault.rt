@@ -6,13 +6,13 @@ ghost use Rattle.bench.specs.declared.fault.LoadFault.TheVariants.{Reading, Tabl
 use policy::ReadFault;
 
 // The table has no room for a node that is needed: at a load's command, or at 0 in a close.
-#[derive(Clone, Copy)]
+#[derive(Clone, Copy, Debug, PartialEq, Eq)]
 pub struct TableFault {
     pub place: usize,
 }
 
 // Why a load or a close failed below the bench.
-#[derive(Clone, Copy)]
+#[derive(Clone, Copy, Debug, PartialEq, Eq)]
 pub enum LoadFault {
     Reading(ReadFault),
     Table(TableFault),
@@ -52,7 +52,7 @@ pub enum Reason {
 }
 
 // Why a call was refused: a lower fault whole, or a reason of the bench's own; and the shelf that the call named.
-#[derive(Clone, Copy)]
+#[derive(Clone, Copy, Debug, PartialEq, Eq)]
 pub enum Fault {
     Below { shelf: u8, fault: LoadFault },
     Own { shelf: u8, reason: Reason },

@@ -34,7 +34,10 @@ const LARGE: usize = 3_000;
 // Each closing and count is done so often, and the best time stands.
 const RUNS: u32 = 9;
 
-const FULL: &str = "the table is full";
+// What a refusal here comes from: pairs are in order, and references stand.
+fn full(_refusal: Refusal) -> anyhow::Error {
+    anyhow!("the table is full")
+}
 
 // The next number of a linear congruential generator; its high bits are the random ones.
 fn random(state: &mut u64) -> u32 {
@@ -281,19 +284,13 @@ fn time_count(
 }
 
 fn time_large(rt: &HostRuntime, diagrams: &mut Diagrams, state: &mut u64) -> anyhow::Result<()> {
-    let Ok(truth) = large(diagrams, state) else {
-        return Err(anyhow!("{FULL}"));
-    };
+    let truth = large(diagrams, state).map_err(full)?;
     let nodes = size(diagrams, truth);
     time_count(rt, diagrams, truth, nodes)?;
     time_closing::<Truth>(rt, diagrams, "truth", truth, nodes)?;
-    let Ok(allowed) = any_of_three(diagrams, state, HALF_ABSENT) else {
-        return Err(anyhow!("{FULL}"));
-    };
+    let allowed = any_of_three(diagrams, state, HALF_ABSENT).map_err(full)?;
     let mark = diagrams.len();
-    let Ok(sets) = diagrams.combine(DECIDE, truth, allowed) else {
-        return Err(anyhow!("{FULL}"));
-    };
+    let sets = diagrams.combine(DECIDE, truth, allowed).map_err(full)?;
     let nodes = diagrams.len().saturating_sub(mark);
     time_closing::<DecisionSets>(rt, diagrams, "decision sets", sets, nodes)
 }
