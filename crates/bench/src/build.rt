@@ -9,6 +9,14 @@ ghost use Rattle.bench.specs.Building.{From, FromAll, ToldRow};
 
 use diagram::{Diagrams, Node, TableFull};
 
+// The pairs of an attribute: so many from `start` on.
+#[derive(Clone, Copy)]
+pub(crate) struct Span {
+    pub(crate) start: u32,
+    pub(crate) count: u32,
+    ghost few: { start + count ≤ 48 },
+}
+
 // A reference for a node whose parts test later pairs.
 fn node(diagrams: &mut Diagrams, pair: u32, low: u32, high: u32) -> Result<u32, TableFull>
     requires small { pair < 48 }
@@ -43,25 +51,19 @@ fn chain(
 }
 
 // The target of a pair: 1 where the query has the pair, 2 where it has no pair of the attribute, else 0.
-pub(crate) fn target(
-    diagrams: &mut Diagrams,
-    start: u32,
-    count: u32,
-    pair: u32,
-) -> Result<u32, TableFull>
-    requires from { start ≤ pair }
-    requires to { pair < start + count }
-    requires small { start + count ≤ 48 }
-    ensures built { Builds (building.target (room_of diagrams.old) (store_of diagrams.old) start count pair) diagrams.old diagrams.new result }
-    ensures means { building.IsTarget (store_of diagrams.new) start count pair result }
+pub(crate) fn target(diagrams: &mut Diagrams, span: Span, pair: u32) -> Result<u32, TableFull>
+    requires from { span.start ≤ pair }
+    requires to { pair < span.start + span.count }
+    ensures built { Builds (building.target (room_of diagrams.old) (store_of diagrams.old) span.start span.count pair) diagrams.old diagrams.new result }
+    ensures means { building.IsTarget (store_of diagrams.new) span.start span.count pair result }
 {
-    let after = chain(diagrams, pair + 1, start + count, 2, 0)?;
+    let after = chain(diagrams, pair + 1, span.start + span.count, 2, 0)?;
     let here = node(diagrams, pair, after, 1)?;
-    if start == pair {
+    if span.start == pair {
         return Ok(here);
     }
     let only = node(diagrams, pair, 0, 1)?;
-    chain(diagrams, start, pair, here, only)
+    chain(diagrams, span.start, pair, here, only)
 }
 
 // The exclusion of two pairs: 0 where the query has both, else 1.
@@ -126,34 +128,22 @@ fn next_row(diagrams: &mut Diagrams, row: &mut [u32], pair: u32, n: usize) -> Re
 }
 
 // A row for each pair of an attribute, the last pair first, each one entry shorter than the row before; the last has one.
-fn rows(
-    diagrams: &mut Diagrams,
-    start: u32,
-    count: u32,
-    row: [u32; PLACES],
-) -> Result<u32, TableFull>
-    requires small { start + count ≤ 48 }
-    requires later { FromAll (store_of diagrams.old) (start + count) count row }
-    ensures { Builds (building.rows (room_of diagrams.old) (store_of diagrams.old) start count row) diagrams.old diagrams.new result }
+fn rows(diagrams: &mut Diagrams, span: Span, row: [u32; PLACES]) -> Result<u32, TableFull>
+    requires { FromAll (store_of diagrams.old) (span.start + span.count) span.count row }
+    ensures { Builds (building.rows (room_of diagrams.old) (store_of diagrams.old) span.start span.count row) diagrams.old diagrams.new result }
 {
     let mut row = row;
-    for j in (start..start + count).rev() {
-        next_row(diagrams, &mut row, j, (j - start + 1) as usize)?;
+    for j in (span.start..span.start + span.count).rev() {
+        next_row(diagrams, &mut row, j, (j - span.start + 1) as usize)?;
     }
     Ok(row[0])
 }
 
 // A limit on an attribute: 1 where the query keeps it, else 0.
-pub(crate) fn limited(
-    diagrams: &mut Diagrams,
-    start: u32,
-    count: u32,
-    limit: Limit,
-) -> Result<u32, TableFull>
-    requires small { start + count ≤ 48 }
-    ensures built { Builds (building.limited (room_of diagrams.old) (store_of diagrams.old) start count limit) diagrams.old diagrams.new result }
-    ensures means { building.IsLimit (store_of diagrams.new) start count limit result }
+pub(crate) fn limited(diagrams: &mut Diagrams, span: Span, limit: Limit) -> Result<u32, TableFull>
+    ensures built { Builds (building.limited (room_of diagrams.old) (store_of diagrams.old) span.start span.count limit) diagrams.old diagrams.new result }
+    ensures means { building.IsLimit (store_of diagrams.new) span.start span.count limit result }
 {
     let row = leaves(limit);
-    rows(diagrams, start, count, row)
+    rows(diagrams, span, row)
 }

@@ -6,17 +6,17 @@ use Rattle.bench.proofs.Answering.{told_as}
 use Rattle.bench.proofs.Counting.{leaves_later, from_leaves, limit_means}
 use Rattle.bench.proofs.build.limited.Goals as goal
 
-pub rows-requires-clause-later : goal.rows-requires-clause-later
-rows-requires-clause-later c =
+pub rows-requires : goal.rows-requires
+rows-requires c =
     let d = c.args.diagrams.now in
-    leaves_later (room_of d) (store_of d) c.args.start c.args.count c.args.limit c.requires.small c.leaves-row.result c.leaves-row.ensures
+    leaves_later (room_of d) (store_of d) c.args.span.start c.args.span.count c.args.limit c.args.span.few c.leaves-row.result c.leaves-row.ensures
 
 pub returns : goal.returns
 returns c =
     let d = c.args.diagrams.now in
     let built = c.rows.ensures in
     let r = c.rows.result in
-    let o = limited (room_of d) (store_of d) c.args.start c.args.count c.args.limit in
+    let o = limited (room_of d) (store_of d) c.args.span.start c.args.span.count c.args.limit in
     let t = store_of c.rows.new.diagrams in
-    let told : Told o t r = told_as t o _ r (from_leaves (room_of d) (store_of d) c.args.start c.args.count c.args.limit c.requires.small c.leaves-row.result c.leaves-row.ensures) built.told in
-    record { built = record { told = told; room = built.room; grown = built.grown }; means = limit_means (room_of d) (store_of d) c.args.start c.args.count c.args.limit c.requires.small t r (standing d) told }
+    let told : Told o t r = told_as t o _ r (from_leaves (room_of d) (store_of d) c.args.span.start c.args.span.count c.args.limit c.args.span.few c.leaves-row.result c.leaves-row.ensures) built.told in
+    record { built = record { told = told; room = built.room; grown = built.grown }; means = limit_means (room_of d) (store_of d) c.args.span.start c.args.span.count c.args.limit c.args.span.few t r (standing d) told }

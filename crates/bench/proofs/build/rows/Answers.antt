@@ -8,19 +8,19 @@ use Rattle.bench.proofs.Counting.{rows_start, rows_full, rows_next, rows_end}
 use Rattle.bench.proofs.build.rows.Goals as goal
 
 pub loop-j-init : goal.loop-j-init
-loop-j-init c = let long : length c.args.row ≡ 49 = omega arith in rows_start _ _ _ _ _ long c.requires.later
+loop-j-init c = let long : length c.args.row ≡ 49 = omega arith in rows_start _ _ _ _ _ long c.requires
 
 pub loop-j-preserved : goal.loop-j-preserved
 loop-j-preserved c =
     let row = c.in_ok-next_row.ensures in
-    rows_next c.loop-j.invariant _ _ _ c.loop-j-test.true (omega (arith, c.requires.small, c.loop-j.auto.j)) (standing c.loop-j.diagrams) row.told row.room
+    rows_next c.loop-j.invariant _ _ _ c.loop-j-test.true (omega (arith, c.args.span.few, c.loop-j.auto.j)) (standing c.loop-j.diagrams) row.told row.room
 
 pub returns-in_err-next_row : goal.returns-in_err-next_row
 returns-in_err-next_row c =
     let turn = c.loop-j.invariant in
     let row = c.in_err-next_row.ensures in
     let d = c.args.diagrams.now in
-    let o = rows (room_of d) (store_of d) c.args.start c.args.count c.args.row in
+    let o = rows (room_of d) (store_of d) c.args.span.start c.args.span.count c.args.row in
     record {
       told = told_full (store_of c.next_row.new.diagrams) o c.from_residual.result c.from_residual.ensures.0 (rows_full turn c.loop-j-test.true row.told);
       room = row.room ∙ turn.same;

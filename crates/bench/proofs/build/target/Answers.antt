@@ -16,7 +16,7 @@ aimed d from to small = record { from = from; to = to; small = small; sound = st
 
 pub chain-requires : goal.chain-requires
 chain-requires c =
-    let small = c.requires.small in
+    let small = c.args.span.few in
     record {
       order = omega (arith, c.requires.to);
       small = small;
@@ -27,88 +27,88 @@ chain-requires c =
 pub returns-in_err-after : goal.returns-in_err-after
 returns-in_err-after c =
     let d = c.args.diagrams.now in
-    let aim = aimed d c.requires.from c.requires.to c.requires.small in
+    let aim = aimed d c.requires.from c.requires.to c.args.span.few in
     let after = c.in_err-after.ensures in
     let r = c.from_residual.result in
     let t = store_of c.chain.new.diagrams in
-    let told : Told (target (room_of d) (store_of d) c.args.start c.args.count c.args.pair) t r = told_full t _ r c.from_residual.ensures.0 (no_after (room_of d) aim after.told) in
+    let told : Told (target (room_of d) (store_of d) c.args.span.start c.args.span.count c.args.pair) t r = told_full t _ r c.from_residual.ensures.0 (no_after (room_of d) aim after.told) in
     record { built = record { told = told; room = after.room; grown = after.grown }; means = target_means (room_of d) aim t r told }
 
 pub node-requires : goal.node-requires
 node-requires c =
     let d = c.args.diagrams.now in
-    let aim = aimed d c.requires.from c.requires.to c.requires.small in
+    let aim = aimed d c.requires.from c.requires.to c.args.span.few in
     record {
-      small = omega (arith, c.requires.to, c.requires.small);
+      small = omega (arith, c.requires.to, c.args.span.few);
       before_low = after_later (room_of d) aim c.in_ok-after.ensures.told;
-      before_high = leaf_later _ _ _ (omega (arith, c.requires.to, c.requires.small)) (omega arith);
+      before_high = leaf_later _ _ _ (omega (arith, c.requires.to, c.args.span.few)) (omega arith);
     }
 
 pub returns-in_err-here : goal.returns-in_err-here
 returns-in_err-here c =
     let d = c.args.diagrams.now in
-    let aim = aimed d c.requires.from c.requires.to c.requires.small in
+    let aim = aimed d c.requires.from c.requires.to c.args.span.few in
     let after = c.in_ok-after.ensures in
     let here = c.in_err-here.ensures in
     let r = c.from_residual-in_err-here.result in
     let t = store_of c.node.new.diagrams in
-    let told : Told (target (room_of d) (store_of d) c.args.start c.args.count c.args.pair) t r = told_full t _ r c.from_residual-in_err-here.ensures.0 (no_here (room_of d) aim after.told after.room here.told) in
+    let told : Told (target (room_of d) (store_of d) c.args.span.start c.args.span.count c.args.pair) t r = told_full t _ r c.from_residual-in_err-here.ensures.0 (no_here (room_of d) aim after.told after.room here.told) in
     record { built = record { told = told; room = here.room ∙ after.room; grown = grown_trans after.grown here.grown }; means = target_means (room_of d) aim t r told }
 
-pub returns-then-start-pair : goal.returns-then-start-pair
-returns-then-start-pair c =
+pub returns-then-span-pair : goal.returns-then-span-pair
+returns-then-span-pair c =
     let d = c.args.diagrams.now in
-    let aim = aimed d c.requires.from c.requires.to c.requires.small in
+    let aim = aimed d c.requires.from c.requires.to c.args.span.few in
     let after = c.in_ok-after.ensures in
     let here = c.in_ok-here.ensures in
     let t = store_of c.node.new.diagrams in
-    let told = none_earlier (room_of d) aim after.told after.room here.told c.if-start-pair.true in
+    let told = none_earlier (room_of d) aim after.told after.room here.told c.if-span-pair.true in
     record { built = record { told = told; room = here.room ∙ after.room; grown = grown_trans after.grown here.grown }; means = target_means (room_of d) aim t (Ok c.in_ok-here.here) told }
 
 pub node-requires-2 : goal.node-requires-2
 node-requires-2 c =
-    let small : c.args.pair < 48 = omega (arith, c.requires.to, c.requires.small) in
+    let small : c.args.pair < 48 = omega (arith, c.requires.to, c.args.span.few) in
     record { small = small; before_low = leaf_later _ _ _ small (omega arith); before_high = leaf_later _ _ _ small (omega arith) }
 
 pub returns-in_err-only : goal.returns-in_err-only
 returns-in_err-only c =
     let d = c.args.diagrams.now in
-    let aim = aimed d c.requires.from c.requires.to c.requires.small in
+    let aim = aimed d c.requires.from c.requires.to c.args.span.few in
     let after = c.in_ok-after.ensures in
     let here = c.in_ok-here.ensures in
     let only = c.in_err-only.ensures in
     let r = c.from_residual-in_err-only.result in
     let t = store_of c.node-2.new.diagrams in
-    let told : Told (target (room_of d) (store_of d) c.args.start c.args.count c.args.pair) t r =
-    told_full t _ r c.from_residual-in_err-only.ensures.0 (no_only (room_of d) aim after.told after.room here.told here.room c.if-start-pair.false only.told) in
+    let told : Told (target (room_of d) (store_of d) c.args.span.start c.args.span.count c.args.pair) t r =
+    told_full t _ r c.from_residual-in_err-only.ensures.0 (no_only (room_of d) aim after.told after.room here.told here.room c.if-span-pair.false only.told) in
     record { built = record { told = told; room = only.room ∙ here.room ∙ after.room; grown = grown_trans after.grown (grown_trans here.grown only.grown) }; means = target_means (room_of d) aim t r told }
 
 pub chain-requires-2 : goal.chain-requires-2
 chain-requires-2 c =
     let d = c.args.diagrams.now in
-    let aim = aimed d c.requires.from c.requires.to c.requires.small in
+    let aim = aimed d c.requires.from c.requires.to c.args.span.few in
     let after = c.in_ok-after.ensures in
     let here = c.in_ok-here.ensures in
     let only = c.in_ok-only.ensures in
     record {
       order = c.requires.from;
-      small = omega (arith, c.requires.to, c.requires.small);
-      before_low = here_from (room_of d) aim after.told after.room here.told here.room c.if-start-pair.false only.told;
-      before_high = only_from (room_of d) aim after.told after.room here.told here.room c.if-start-pair.false only.told;
+      small = omega (arith, c.requires.to, c.args.span.few);
+      before_low = here_from (room_of d) aim after.told after.room here.told here.room c.if-span-pair.false only.told;
+      before_high = only_from (room_of d) aim after.told after.room here.told here.room c.if-span-pair.false only.told;
     }
 
 pub returns : goal.returns
 returns c =
     let d = c.args.diagrams.now in
-    let aim = aimed d c.requires.from c.requires.to c.requires.small in
+    let aim = aimed d c.requires.from c.requires.to c.args.span.few in
     let after = c.in_ok-after.ensures in
     let here = c.in_ok-here.ensures in
     let only = c.in_ok-only.ensures in
     let last = c.chain-2.ensures in
     let r = c.chain-2.result in
     let t = store_of c.chain-2.new.diagrams in
-    let told : Told (target (room_of d) (store_of d) c.args.start c.args.count c.args.pair) t r =
-    told_as t _ _ r (then_chain (room_of d) aim after.told after.room here.told here.room c.if-start-pair.false only.told only.room) last.told in
+    let told : Told (target (room_of d) (store_of d) c.args.span.start c.args.span.count c.args.pair) t r =
+    told_as t _ _ r (then_chain (room_of d) aim after.told after.room here.told here.room c.if-span-pair.false only.told only.room) last.told in
     record {
       built = record { told = told; room = last.room ∙ only.room ∙ here.room ∙ after.room; grown = grown_trans after.grown (grown_trans here.grown (grown_trans only.grown last.grown)) };
       means = target_means (room_of d) aim t r told;
