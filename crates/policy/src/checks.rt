@@ -8,11 +8,12 @@ ghost use Rattle.policy.specs.Reading.{opening, differs};
 const OPENING: &[u8; 5] = b"PTAC\x01";
 
 // The place of the first byte of the opening that is wrong or missing.
+#[tactic(auto, using(crate::proofs::Spelling::opening_more, crate::proofs::Spelling::opening_all))]
 pub(crate) fn wrong_opening(file: &[u8]) -> Option<usize>
     ensures { result ≡ differs opening file.now 0 }
 {
     for (i, byte) in OPENING.iter().enumerate() {
-        if i >= file.len() || file[i] != *byte {
+        if file.get(i) != Some(byte) {
             return Some(i);
         }
     }

@@ -31,6 +31,7 @@ pub use reader::Reader;
 
 // Reads the whole file, and answers how many pairs it has, or the first fault. Every file that reads well keeps the laws
 // of `specs/Laws.antt`.
+#[tactic(auto, using(crate::proofs::Readers::ahead_of_new, crate::proofs::Readers::ahead_of_refused, crate::proofs::Readers::stop_last, crate::proofs::Readers::stop_later, crate::proofs::Readers::place_moves, crate::proofs::Readers::place_within, crate::proofs::Readers::answers_fault, crate::proofs::Readers::answers_pairs, crate::proofs::Lawful::lawfully_read))]
 pub fn check(file: &[u8]) -> Result<u8, ReadFault>
     ensures is { Answers result (reads file.now) }
     ensures laws { LawfullyRead file.now }

@@ -7,6 +7,7 @@ use super::Commands;
 use crate::{Command, Reader};
 
 impl<'f> Commands<'f> {
+    #[tactic(auto, using(crate::proofs::Readers::ahead_of_new))]
     pub fn of(file: &'f [u8]) -> Commands<'f>
         ensures { to_come result ≡ commands_of file.now }
     {
@@ -30,6 +31,7 @@ impl<'f> Iterator for Commands<'f> {
 
     ghost remaining = { item_count to_come };
 
+    #[tactic(auto, using(crate::proofs::Readers::first_ahead, crate::proofs::Readers::ahead_of_refused))]
     fn next(&mut self) -> Option<Command<'f>> {
         self.reader.next().ok()
     }

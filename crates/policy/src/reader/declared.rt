@@ -89,6 +89,7 @@ impl<'f> Reader<'f> {
     }
 
     // The operator of a two-operand code.
+    #[tactic(auto, using(crate::proofs::Declared::by_standard))]
     pub fn row(&self, code: u8) -> Option<Row>
         ensures { RowOf result (context self.now).operators code }
     {
