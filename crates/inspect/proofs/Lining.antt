@@ -1,6 +1,5 @@
 -- From line to line.
-use Rattle.std.proofs.Common.{◌≡◌, ℕ, ◌+◌, ◌<◌, List, [], ◌∷◌, ◌++◌, length, get_or, take, Ok, Err, decimal, sym, refl, ap, ◌∙◌, append_assoc, append-nil}
-use Rattle.std.proofs.lemmas.List.{take_more}
+use Rattle.std.proofs.Common.{◌≡◌, ℕ, ◌+◌, List, [], ◌∷◌, ◌++◌, Ok, Err, sym, refl, ap, ◌∙◌, append_assoc, append-nil}
 use Rattle.policy.specs.declared.command.Command.{Command}
 use Rattle.policy.specs.declared.fault.ReadFault.{ReadFault}
 use Rattle.policy.specs.declared.reader.Reader.{Reader}
@@ -8,29 +7,10 @@ use Rattle.policy.specs.Commands as c
 use Rattle.policy.specs.View.{command, context, bytes, place, progress, told, next_step, ahead}
 use Rattle.policy.proofs.Readers.{ahead_of_refused, first_ahead}
 use Rattle.inspect.specs.declared.text.Text.{Text}
-use Rattle.inspect.specs.Lines.{after, size_of, line_text, lines_text, digits_text, Listed}
+use Rattle.inspect.specs.Lines.{after, size_of, line_text, lines_text, Listed}
 use Rattle.inspect.specs.Written.{Added}
-use Rattle.inspect.proofs.Joins.{nothing, then, named}
+use Rattle.inspect.proofs.Joins.{then, named}
 use Rattle.inspect.proofs.Parts.{Follows, step_follows}
-
--- ---- digits
-
-digits_append : (a b : List ℕ) → digits_text (a ++ b) ≡ digits_text a ++ digits_text b
-unfolding digits_text
-digits_append [] b = refl
-digits_append (d ∷ a) b = ap (λ l. decimal d ++ l) (digits_append a b) ∙ sym (append_assoc (decimal d) (digits_text a) (digits_text b))
-
-digit_alone : (d : ℕ) → digits_text (d ∷ []) ≡ decimal d
-unfolding digits_text
-digit_alone d = append-nil (decimal d)
-
-pub no_digits : (t : Text) → Added t t (digits_text [])
-unfolding digits_text
-no_digits t = nothing t
-
-pub one_digit : {s t u : Text} (ds : List ℕ) (i : ℕ) → i < length ds → Added s t (digits_text (take i ds)) → Added t u (decimal (get_or ds i 0)) → Added s u (digits_text (take (i + 1) ds))
-one_digit ds i l e f =
-    named (sym (ap digits_text (take_more ds i 0 l) ∙ digits_append (take i ds) (get_or ds i 0 ∷ []) ∙ ap (λ b. digits_text (take i ds) ++ b) (digit_alone (get_or ds i 0)))) (then e f)
 
 -- ---- commands
 

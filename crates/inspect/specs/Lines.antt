@@ -1,5 +1,6 @@
 -- The lines of a file's commands.
 use Rattle.std.specs.Prelude.{◌≡◌, ℕ, ◌+◌, ◌-◌, List, [], ◌∷◌, ◌++◌, length, Ok, Err, codes, decimal, Result}
+use Rattle.std.specs.List.{flat_map}
 use Rattle.policy.specs.Commands.{Context, Command, attribute, operator, restrict, act, exclusion, most, least, push_pair, push, change, combine, guard, end, Action, declares}
 use Rattle.policy.specs.declared.reader.Reader.{Reader}
 use Rattle.policy.specs.View.{context, place, ahead}
@@ -13,9 +14,8 @@ abbrev pub newest_code : Context → ℕ
 newest_code x = 0x20 + (length x.operators - 1)
 
 -- digits, one after another
-unfoldable pub digits_text : List ℕ → List ℕ
-digits_text [] = []
-digits_text (d ∷ ds) = decimal d ++ digits_text ds
+abbrev pub digits_text : List ℕ → List ℕ
+digits_text ds = flat_map decimal ds
 
 -- these words, the limit and the attribute's name
 abbrev pub limit_text : Context → List ℕ → ℕ → ℕ → List ℕ

@@ -5,6 +5,7 @@ mod build;
 
 pub(crate) use build::formula;
 
+// Two types, and not one tree over its leaves: a guard has a target and a policy in it, so its leaf would hold the tree.
 #[derive(Drop)]
 pub enum Target {
     Pair(u8),

@@ -118,6 +118,7 @@ impl Text {
 }
 
 // The lines of all commands ahead of a reader, up to the end of the file or to its first fault.
+#[tactic(auto, using(crate::proofs::Lining::one_more, policy::proofs::Readers::place_moves, policy::proofs::Readers::place_within))]
 pub(crate) fn lines(text: &mut Text, reader: &mut Reader) -> Result<(), AllocError>
     ensures { lists.Lists result text.old text.new reader.old reader.new }
 {

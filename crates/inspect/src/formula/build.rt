@@ -101,6 +101,7 @@ fn act(heap: Global, items: &mut Vec<Item>, taken: Command) -> Result<(), Failur
 }
 
 // The tree of the policy of a file that reads well.
+#[tactic(auto, using(crate::proofs::Allowing::needs, crate::proofs::Allowing::not_left, crate::proofs::Allowing::none_left, crate::proofs::Allowing::target_left))]
 pub(crate) fn formula(heap: Global, file: &[u8]) -> Result<Policy, Failure>
     ensures tree { Builds result (reads file.now) }
     ensures memory { NeedsMemoryAlone result (reads file.now) }

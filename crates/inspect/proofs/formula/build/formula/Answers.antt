@@ -1,4 +1,4 @@
-use Rattle.std.proofs.Common.{◌≡◌, List, [], ◌∷◌, ◌++◌, vec_items, Err, Result, sym, refl, ap, ◌∙◌, subst, Some, None, Option}
+use Rattle.std.proofs.Common.{◌≡◌, List, [], ◌∷◌, ◌++◌, vec_items, Err, sym, ap, ◌∙◌, subst, Some, None, Option}
 use Rattle.std.proofs.lemmas.Result.{err_from_is_err_and}
 use Rattle.policy.specs.Commands.{Command, Context}
 use Rattle.policy.specs.Reading.{commands_of, reads}
@@ -7,11 +7,10 @@ use Rattle.policy.specs.declared.commands.Commands.{Commands}
 use Rattle.policy.specs.View.{command, to_come, Yields}
 use Rattle.inspect.specs.declared.failure.Failure.{Failure}
 use Rattle.inspect.specs.declared.failure.Failure.TheVariants.{Items}
-use Rattle.inspect.specs.declared.formula.Policy.{Policy}
 use Rattle.inspect.specs.declared.formula.Item as i
 use Rattle.inspect.specs.declared.formula.Item.TheVariants as item_of_kind
 use Rattle.inspect.specs.Trees.{stack}
-use Rattle.inspect.proofs.Allowing.{refused_items, needs, not_refused, not_left, none_left, target_left}
+use Rattle.inspect.proofs.Allowing.{refused_items, needs, not_refused}
 use Rattle.inspect.proofs.Stacking.{stack_under, all_declared, finished}
 use Rattle.inspect.proofs.formula.build.formula.Goals as goal
 
@@ -28,24 +27,8 @@ returns-in_err-act-clause-memory c =
     not_refused c.args.file.now (to_come c.loop-command.command-iterator) (vec_items c.loop-command.items) c.loop-command.invariant.kinds
     (command c.in-Some.command) (to_come c.next.new.self) (gave c.loop-command.command-iterator c.next.new.self c.next.result (Some c.in-Some.command) c.in-Some.is c.next.ensures.steps).0 (refused_items e _ _ _ is c.in_err-act.ensures.kinds))
 
-pub returns-in_err-policy-clause-memory : goal.returns-in_err-policy-clause-memory
-returns-in_err-policy-clause-memory c =
-    let r = c.from_residual-in_err-policy.result in
-    let p = err_from_is_err_and r c.from_residual-in_err-policy.ensures.1 in
-    let items : List i.Item = vec_items c.loop-command.items in
-    needs r c.in_err-policy.field-0.0 (reads c.args.file.now) (p.1 ∙ ap Err p.2) (λ is.
-    not_left c.args.file.now (to_come c.loop-command.command-iterator) items c.loop-command.invariant.kinds (gave c.loop-command.command-iterator c.next.new.self c.next.result None c.in-None.is c.next.ensures.steps).0 (none_left items c.in_err-policy.ensures.none.1))
-
-pub returns-clause-memory : goal.returns-clause-memory
-returns-clause-memory c =
-    let items : List i.Item = vec_items c.loop-command.items in
-    let r : Result Policy Failure = Err Items in
-    needs r Items (reads c.args.file.now) refl (λ is.
-    not_left c.args.file.now (to_come c.loop-command.command-iterator) items c.loop-command.invariant.kinds (gave c.loop-command.command-iterator c.next.new.self c.next.result None c.in-None.is c.next.ensures.steps).0
-    (target_left items (vec_items c.popped.new.items) _ _ c.in_ok-policy.ensures.last c.in-Target.is))
-
-pub returns-in-Policy : goal.returns-in-Policy
-returns-in-Policy c =
+pub returns-in-Policy-clause-tree : goal.returns-in-Policy-clause-tree
+returns-in-Policy-clause-tree c =
     let x : Context = all_declared c.args.file.now in
     let items : List i.Item = vec_items c.loop-command.items in
     let rest : List i.Item = vec_items c.popped.new.items in
@@ -53,4 +36,4 @@ returns-in-Policy c =
     c.in_ok-policy.ensures.last ∙ ap (λ (u : i.Item). rest ++ (u ∷ [])) c.in-Policy.is in
     let all : stack x items ≡ stack_under x (commands_of c.args.file.now) [] =
     sym (ap (λ (cs : List Command). stack_under x cs (stack x items)) (gave c.loop-command.command-iterator c.next.new.self c.next.result None c.in-None.is c.next.ensures.steps).0) ∙ c.loop-command.invariant.tree in
-    record { tree = finished c.args.file.now c.in-Policy.policy items rest left all; memory = tt }
+    finished c.args.file.now c.in-Policy.policy items rest left all
