@@ -32,38 +32,17 @@ goes t c =
     combine_node (value_of c.args.rule) (value_leaves c.args.rule) _ c.args.a c.args.b (standing c.args.self.now) c.requires.left c.requires.right _ _ _ _ _
     (first_is t (goal.at.After-parts-bl t c).After-min-v) c.if-v-ge-PAIRS.false (sym c.parts-al.ensures.low) (sym c.parts-bl.ensures.low) (sym c.parts-al.ensures.high) (sym c.parts-bl.ensures.high)
 
-pub build_combined-requires : goal.build_combined-requires
-build_combined-requires t c =
-    let go = goes t (goal.at.build_combined-requires t c).After-parts-bl in
-    let m : 48 - first (store_of c.args.self.now) c.args.a c.args.b ≡ t = c.decreases in
-    (omega (arith, go.at, go.small, go.low_later), go.low_stands)
-
 pub returns-in_err-low : goal.returns-in_err-low
 unfolding combined
 returns-in_err-low t c =
     let at = goal.at.returns-in_err-low t c in
     rw (err_from_is_err_and c.from_residual.result c.from_residual.ensures.1).1 (low_full (combines_rule c.args.rule) (goes t at.After-parts-bl) c.in_err-low.ensures)
 
-pub build_combined-requires-2 : goal.build_combined-requires-2
-unfolding combined
-build_combined-requires-2 t c =
-    let at = goal.at.build_combined-requires-2 t c in
-    let go = goes t at.After-parts-bl in
-    let m : 48 - first (store_of c.args.self.now) c.args.a c.args.b ≡ t = c.decreases in
-    let later = high_later (combines_rule c.args.rule) go c.in_ok-low.ensures in
-    (omega (arith, go.at, go.small), high_stands (combines_rule c.args.rule) go c.in_ok-low.ensures)
-
 pub returns-in_err-high : goal.returns-in_err-high
 unfolding combined
 returns-in_err-high t c =
     let at = goal.at.returns-in_err-high t c in
     rw (err_from_is_err_and c.from_residual-in_err-high.result c.from_residual-in_err-high.ensures.1).1 (high_full (combines_rule c.args.rule) (goes t at.After-parts-bl) c.in_ok-low.ensures c.in_err-high.ensures)
-
-pub node-requires : goal.node-requires
-unfolding combined
-node-requires t c =
-    let at = goal.at.node-requires t c in
-    node_fits (combines_rule c.args.rule) (goes t at.After-parts-bl) c.in_ok-low.ensures c.in_ok-high.ensures
 
 pub returns-in_err-r : goal.returns-in_err-r
 unfolding combined
@@ -78,12 +57,33 @@ built t c =
     let at = goal.at.In_ok-r t c in
     then_after (combines_rule c.args.rule) (goes t at.After-parts-bl) c.in_ok-low.ensures c.in_ok-high.ensures c.in_ok-r.ensures.builds
 
+pub returns : goal.returns
+returns t c = builds_same (built t (goal.at.returns t c).In_ok-r) c.note.ensures.store c.note.ensures.room
+
+pub build_combined-requires : goal.build_combined-requires
+build_combined-requires t c =
+    let go = goes t (goal.at.build_combined-requires t c).After-parts-bl in
+    let m : 48 - first (store_of c.args.self.now) c.args.a c.args.b ≡ t = c.decreases in
+    (omega (arith, go.at, go.small, go.low_later), go.low_stands)
+
+pub build_combined-requires-2 : goal.build_combined-requires-2
+unfolding combined
+build_combined-requires-2 t c =
+    let at = goal.at.build_combined-requires-2 t c in
+    let go = goes t at.After-parts-bl in
+    let m : 48 - first (store_of c.args.self.now) c.args.a c.args.b ≡ t = c.decreases in
+    let later = high_later (combines_rule c.args.rule) go c.in_ok-low.ensures in
+    (omega (arith, go.at, go.small), high_stands (combines_rule c.args.rule) go c.in_ok-low.ensures)
+
+pub node-requires : goal.node-requires
+unfolding combined
+node-requires t c =
+    let at = goal.at.node-requires t c in
+    node_fits (combines_rule c.args.rule) (goes t at.After-parts-bl) c.in_ok-low.ensures c.in_ok-high.ensures
+
 pub note-requires : goal.note-requires
 unfolding combined
 note-requires t c =
     let at = goal.at.note-requires t c in
     let ran = came (combines_rule c.args.rule) (c.requires.left, c.requires.right) (built t at.In_ok-r) in
     known_combined c.args.rule c.key.ensures.is c.args.a c.args.b c.in_ok-r.r c.key.ensures.below c.requires.left c.requires.right ran
-
-pub returns : goal.returns
-returns t c = builds_same (built t (goal.at.returns t c).In_ok-r) c.note.ensures.store c.note.ensures.room

@@ -38,33 +38,15 @@ goes t c =
     fix_node c.args.pair c.requires.small s c.args.a (standing c.args.self.now) c.requires.stands _ _ _ (sym v) (omega (arith, c.if-v-pair.false))
     (low_is s _ _ v ∙ sym c.parts-low.ensures.low) (high_is s _ _ v ∙ sym c.parts-low.ensures.high)
 
-pub build_fixed-requires : goal.build_fixed-requires
-build_fixed-requires t c =
-    let go = goes t (goal.at.build_fixed-requires t c).In_default in
-    let m : 48 - top (store_of c.args.self.now) c.args.a ≡ t = c.decreases in
-    (omega (arith, go.at, go.small, go.low_later), (c.requires.small, go.low_stands))
-
 pub returns-in_err-fixed_low : goal.returns-in_err-fixed_low
 unfolding fixed
 returns-in_err-fixed_low t c =
     rw (err_from_is_err_and c.from_residual.result c.from_residual.ensures.1).1 (low_full (fixes_so _ c.requires.small) (goes t (goal.at.returns-in_err-fixed_low t c).In_default) c.in_err-fixed_low.ensures)
 
-pub build_fixed-requires-2 : goal.build_fixed-requires-2
-unfolding fixed
-build_fixed-requires-2 t c =
-    let go = goes t (goal.at.build_fixed-requires-2 t c).In_default in
-    let m : 48 - top (store_of c.args.self.now) c.args.a ≡ t = c.decreases in
-    let later = high_later (fixes_so _ c.requires.small) go c.in_ok-fixed_low.ensures in
-    (omega (arith, go.at, go.small), (c.requires.small, high_stands (fixes_so _ c.requires.small) go c.in_ok-fixed_low.ensures))
-
 pub returns-in_err-fixed_high : goal.returns-in_err-fixed_high
 unfolding fixed
 returns-in_err-fixed_high t c =
     rw (err_from_is_err_and c.from_residual-in_err-fixed_high.result c.from_residual-in_err-fixed_high.ensures.1).1 (high_full (fixes_so _ c.requires.small) (goes t (goal.at.returns-in_err-fixed_high t c).In_default) c.in_ok-fixed_low.ensures c.in_err-fixed_high.ensures)
-
-pub node-requires : goal.node-requires
-unfolding fixed
-node-requires t c = node_fits (fixes_so _ c.requires.small) (goes t (goal.at.node-requires t c).In_default) c.in_ok-fixed_low.ensures c.in_ok-fixed_high.ensures
 
 pub returns-in_err-r : goal.returns-in_err-r
 unfolding fixed
@@ -76,11 +58,29 @@ built : (t : ℕ) (c : In_ok-r t) → Builds (fixed (room_of c.args.self.now) (s
 unfolding fixed
 built t c = then_after (fixes_so _ c.requires.small) (goes t (goal.at.In_ok-r t c).In_default) c.in_ok-fixed_low.ensures c.in_ok-fixed_high.ensures c.in_ok-r.ensures.builds
 
+pub returns : goal.returns
+returns t c = builds_same (built t (goal.at.returns t c).In_ok-r) c.note.ensures.store c.note.ensures.room
+
+pub build_fixed-requires : goal.build_fixed-requires
+build_fixed-requires t c =
+    let go = goes t (goal.at.build_fixed-requires t c).In_default in
+    let m : 48 - top (store_of c.args.self.now) c.args.a ≡ t = c.decreases in
+    (omega (arith, go.at, go.small, go.low_later), (c.requires.small, go.low_stands))
+
+pub build_fixed-requires-2 : goal.build_fixed-requires-2
+unfolding fixed
+build_fixed-requires-2 t c =
+    let go = goes t (goal.at.build_fixed-requires-2 t c).In_default in
+    let m : 48 - top (store_of c.args.self.now) c.args.a ≡ t = c.decreases in
+    let later = high_later (fixes_so _ c.requires.small) go c.in_ok-fixed_low.ensures in
+    (omega (arith, go.at, go.small), (c.requires.small, high_stands (fixes_so _ c.requires.small) go c.in_ok-fixed_low.ensures))
+
+pub node-requires : goal.node-requires
+unfolding fixed
+node-requires t c = node_fits (fixes_so _ c.requires.small) (goes t (goal.at.node-requires t c).In_default) c.in_ok-fixed_low.ensures c.in_ok-fixed_high.ensures
+
 pub note-requires : goal.note-requires
 unfolding fixed
 note-requires t c =
     let ran = came (fixes_so _ c.requires.small) c.requires.stands (built t (goal.at.note-requires t c).In_ok-r) in
     known_fixed c.args.pair c.args.a c.in_ok-r.r c.requires.small c.requires.stands ran
-
-pub returns : goal.returns
-returns t c = builds_same (built t (goal.at.returns t c).In_ok-r) c.note.ensures.store c.note.ensures.room

@@ -12,7 +12,7 @@ at : (c : After-node_at-node) → Seen (seen_in c.args.self.now) c.node_at-node.
 at c =
     let v = c.args.self.now in
     seen (seen_in v) (sound_of (seen_in v) v.sound) c.node_at-node.result c.loop-r.r
-    (rw c.node_at-node.ensures (read v.words.now v.fill c.loop-r.r c.loop-r-test.true (omega (arith, c.loop-r.invariant.0, length-stored v.words.now v.fill))))
+    (rw c.node_at-node.ensures (read v.words.now v.fill c.loop-r.r (omega arith) (omega (arith, c.loop-r.invariant.0, length-stored v.words.now v.fill))))
 
 pub node_at-node-requires : goal.node_at-node-requires
 node_at-node-requires c = let v = c.args.self.now in omega (arith, c.loop-r.invariant.0, v.within, length-stored v.words.now v.fill)
