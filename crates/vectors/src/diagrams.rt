@@ -12,7 +12,7 @@ const OR: Rule = Rule::Two([0, 1, 0, 1, 1, 0, 0, 0, 0]);
 const XOR: Rule = Rule::Two([0, 1, 0, 1, 0, 0, 0, 0, 0]);
 
 // Present where the pair is.
-fn present(diagrams: &mut Diagrams, pair: u32) -> Result<u32, Refusal> {
+pub(crate) fn present(diagrams: &mut Diagrams, pair: u32) -> Result<u32, Refusal> {
     diagrams.make(Node {
         pair,
         low: 0,
