@@ -1,51 +1,27 @@
 -- The loops over the opening, a name and nine digits.
-use Rattle.std.proofs.Common.{◌≡◌, ℕ, suc, ◌+◌, ◌<◌, ◌≤◌, Bool, true, false, cond, not, ◌&&◌, eqb, ltb, List, [], ◌∷◌, length, get_or, drop, Some, None, Option, refl, sym, ap, ◌∙◌, arith}
+use Rattle.std.proofs.Common.{◌≡◌, ℕ, ◌+◌, ◌<◌, ◌≤◌, Bool, true, cond, ◌&&◌, eqb, List, ◌∷◌, length, get_or, drop, Some, None, Option, sym, ap, ◌∙◌}
 use Rattle.std.proofs.lemmas.List.{drop_more, drop_all}
-use Rattle.std.proofs.lemmas.Bool.{and_parts, leb-true, lt-ltb, eq-eqb, ne_eqb, cond-true, cond-false}
-use Rattle.std.specs.List.{prefix_len}
-use Rattle.policy.specs.Commands.{zeros, padded, is_name, printable}
+use Rattle.std.proofs.lemmas.Bool.{eq-eqb, ne_eqb, cond-true, cond-false}
+use Rattle.policy.specs.Commands.{zeros, padded, printable}
 use Rattle.policy.specs.Reading.{differs}
 
 -- ---- names
 
--- after its letters a name has 00 to the end
-one_more : (n : ℕ) → 1 + n ≡ suc n
-one_more n = omega arith
-
-either : (t u : Bool) → cond t u false ≡ (t && u)
-either true u = refl
-either false u = refl
-
-neither : (t u : Bool) → (not t && (t && u)) ≡ false
-neither true u = refl
-neither false u = refl
-
-not_zero : (b : ℕ) → printable b ≡ true → eqb b 0 ≡ false
-not_zero b e = ne_eqb _ _ (λ z. let h = leb-true 33 b (and_parts _ _ e).0 in omega arith)
-
-module _ (b : ℕ) (bs : List ℕ) where
-  abbrev letters : Bool → ℕ
-  letters t = cond t (1 + prefix_len printable bs) 0
-
-  padded_at : (t : Bool) → printable b ≡ t → padded bs ≡ zeros (drop (prefix_len printable bs) bs) → padded (b ∷ bs) ≡ zeros (drop (letters t) (b ∷ bs))
+module _ (bs : List ℕ) (i : ℕ) (h : i < length bs) where
+  at : padded (drop i bs) ≡ cond (eqb (get_or bs i 0) 0) (zeros (drop (i + 1) bs)) (printable (get_or bs i 0) && padded (drop (i + 1) bs))
   unfolding padded
-  padded_at true e rest = cond-false _ _ _ (not_zero b e) ∙ ap (λ t. t && padded bs) e ∙ rest ∙ ap (λ m. zeros (drop m (b ∷ bs))) (sym (one_more (prefix_len printable bs)))
-  padded_at false e rest = ap (λ t. cond (eqb b 0) (zeros bs) (t && padded bs)) e ∙ either (eqb b 0) (zeros bs)
+  at = ap padded (drop_more bs i 0 h)
 
-  name_at : (t : Bool) → printable b ≡ t → (not (eqb b 0) && zeros (drop (letters t) (b ∷ bs))) ≡ (ltb 0 (letters t) && zeros (drop (letters t) (b ∷ bs)))
-  name_at true e = ap (λ t. not t && zeros (drop (letters true) (b ∷ bs))) (not_zero b e) ∙ ap (λ t. t && zeros (drop (letters true) (b ∷ bs))) (sym (lt-ltb 0 (letters true) (omega arith)))
-  name_at false e = neither (eqb b 0) (zeros bs)
+  -- from the first 00 on nothing else may stand
+  pub padded_zero : get_or bs i 0 ≡ 0 → padded (drop i bs) ≡ zeros (drop i bs)
+  padded_zero e = at ∙ cond-true _ _ _ (eq-eqb _ _ e) ∙ sym (ap zeros (drop_more bs i 0 h) ∙ ap (λ t. t && zeros (drop (i + 1) bs)) (eq-eqb _ _ e))
 
--- after its letters a name has 00 to the end
-padded_is : (bs : List ℕ) → padded bs ≡ zeros (drop (prefix_len printable bs) bs)
+  pub padded_more : (get_or bs i 0 ≡ 0 → ⊥) → (t : Bool) → printable (get_or bs i 0) ≡ t → padded (drop i bs) ≡ (t && padded (drop (i + 1) bs))
+  padded_more ne t e = at ∙ cond-false _ _ _ (ne_eqb _ _ ne) ∙ ap (λ u. u && padded (drop (i + 1) bs)) e
+
+pub padded_end : (bs : List ℕ) (i : ℕ) → length bs ≤ i → padded (drop i bs) ≡ true
 unfolding padded
-padded_is [] = refl
-padded_is (b ∷ bs) = padded_at b bs (printable b) refl (padded_is bs)
-
-pub is_name_is : (bs : List ℕ) → is_name bs ≡ (ltb 0 (prefix_len printable bs) && zeros (drop (prefix_len printable bs) bs))
-unfolding is_name
-is_name_is [] = refl
-is_name_is (b ∷ bs) = ap (λ t. not (eqb b 0) && t) (padded_is (b ∷ bs)) ∙ name_at b bs (printable b) refl
+padded_end bs i h = ap padded (drop_all i bs h)
 
 -- ---- the opening
 

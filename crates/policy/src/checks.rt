@@ -26,17 +26,6 @@ const FIRST_PRINTABLE: u8 = 0x21;
 // The last one.
 const LAST_PRINTABLE: u8 = 0x7e;
 
-// How many of these bytes are printable, up to the first that is not.
-fn letters(bytes: &[u8]) -> usize
-    ensures is { result ≡ prefix_len printable bytes.now }
-    ensures within { result ≤ length bytes.now }
-{
-    bytes
-        .iter()
-        .take_while(|byte| **byte >= FIRST_PRINTABLE && **byte <= LAST_PRINTABLE)
-        .count()
-}
-
 // Whether each of these is 00.
 fn are_zeros(bytes: &[u8]) -> bool
     ensures { result ≡ zeros bytes.now }
@@ -48,8 +37,15 @@ fn are_zeros(bytes: &[u8]) -> bool
 pub(crate) fn is_name(name: &[u8]) -> bool
     ensures { result ≡ is_name name.now }
 {
-    let letters = letters(name);
-    letters > 0 && are_zeros(&name[letters..])
+    for (i, byte) in name.iter().enumerate() {
+        if *byte == 0 {
+            return i > 0 && are_zeros(&name[i..]);
+        }
+        if *byte < FIRST_PRINTABLE || *byte > LAST_PRINTABLE {
+            return false;
+        }
+    }
+    !name.is_empty()
 }
 
 // Whether each of these is 0, 1 or 2.

@@ -1,4 +1,4 @@
-use Rattle.std.proofs.Common.{arith, sym, ◌∙◌}
+use Rattle.std.proofs.Common.{arith}
 use Rattle.policy.specs.Reading.{opening}
 use Rattle.policy.proofs.Spelling.{opening_wrong, opening_short}
 use Rattle.policy.proofs.checks.wrong_opening.Goals as goal
