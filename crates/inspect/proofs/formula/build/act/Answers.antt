@@ -1,11 +1,16 @@
-use Rattle.std.proofs.Common.{vec_items, Err, refl, ap, ◌∙◌}
+use Rattle.std.proofs.Common.{arith, vec_items, Err, refl, ap, ◌∙◌}
 use Rattle.std.proofs.lemmas.Result.{err_from_is_err_and}
 use Rattle.policy.specs.Commands.{one_item, two_alike, guarding}
 use Rattle.policy.specs.View as view
 use Rattle.inspect.specs.Kinds.{kinds}
+use Rattle.std.proofs.lemmas.Grind.{common_steps}
 use Rattle.inspect.proofs.Allowing.{allows_push, kinds_one, kinds_two, turned_away}
 use Rattle.inspect.proofs.formula.build.act.Goals as goal
 use Rattle.inspect.proofs.formula.build.act.Goals.{in-Pair, in-Constant, in-Change+in_ok-item-in-Change+in_ok-item-in-Change-2, in-Combine+in_ok-second-in-Combine+in_ok-first-in-Combine+in_ok-item-in-Combine, in-Guard+in_ok-policy-in-Guard+in_ok-target-in-Guard+in_ok-item-in-Guard}
+
+-- written out, since the order of the operands is a matter of this clause alone
+pub returns-clause-tree : goal.returns-clause-tree
+returns-clause-tree c = grind (arith, common_steps)
 
 pub returns-clause-kinds : goal.returns-clause-kinds
 returns-clause-kinds c =
