@@ -1,7 +1,7 @@
 // A line for each command of a file.
 #![tactic(auto, using(crate::proofs::Joins::then_adds))]
 
-ghost use Rattle.std.specs.Prelude.{◌≡◌, ◌++◌, codes, decimal};
+ghost use Rattle.std.specs.Prelude.{◌++◌, codes, decimal};
 ghost use Rattle.policy.specs.View as view;
 ghost use Rattle.inspect.specs.Lines as lists;
 ghost use Rattle.inspect.specs.Names as names;

@@ -1,5 +1,5 @@
 // The stack of part four, as far as a reader keeps it: the kinds of its items.
-ghost use Rattle.std.specs.Prelude.{◌≡◌, ◌≤◌, true, [], length, nat_le};
+ghost use Rattle.std.specs.Prelude.{◌≡◌, ◌≤◌, [], length, nat_le};
 ghost use Rattle.std.specs.Option.{option_map};
 ghost use Rattle.policy.specs.Commands.{two_alike, guarding, kinds_after, one_policy};
 ghost use Rattle.policy.specs.View.{command, stack, stack_after};
