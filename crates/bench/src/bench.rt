@@ -11,7 +11,8 @@ mod asking;
 mod changing;
 mod opening;
 
-// A bench: diagrams in lent memory, and four shelves.
+// A bench: diagrams in lent memory, and four shelves. Calls name a shelf by a plain number: any may come, and a wrong one is
+// refused.
 #[derive(Drop)]
 pub struct Bench<'m> {
     diagrams: Diagrams<'m>,

@@ -96,6 +96,9 @@ impl Limit {
     }
 }
 
+// A row stands in an array of fixed size, and not in a vector of so many entries: nothing here allocates, and as entries are
+// replaced none is added or taken away.
+//
 // The most entries that a row has: one for each count of pairs, from 0 to 48.
 const PLACES: usize = 49;
 

@@ -58,6 +58,7 @@ pub enum Fault {
     Own { shelf: u8, reason: Reason },
 }
 
+// By matches, here and below: the cases hold lower faults, so that `as` gives no number.
 impl LoadFault {
     // 1 is reading, 2 is the table.
     pub fn layer(self) -> u8

@@ -10,7 +10,7 @@ use diagram::{DecisionSets, Diagrams, Mark, Rule, TableFull, Truth};
 // The set of a decision, 1 for deny, 2 for allow and 4 for not applicable, where the query is valid; else the empty set.
 const SETS: Rule = Rule::Two([0, 0, 0, 1, 2, 4, 0, 0, 0]);
 
-// Builds what a closed shelf lists and reaches.
+// Builds what a closed shelf lists and reaches. `room` and `grown` are said of two values, as on the methods of `Diagrams`.
 #[tactic(auto, using(diagram::proofs::Stands::grown_trans))]
 fn build(diagrams: &mut Diagrams, draft: Draft) -> Result<Lists, TableFull>
     requires valid { draft.valid < mark (store_of diagrams.old) }

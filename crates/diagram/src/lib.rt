@@ -23,7 +23,8 @@ pub use rule::Rule;
 pub use table::TableFull;
 pub use view::View;
 
-// References below this are leaves; reference 8 + k is node k.
+// References below this are leaves; reference 8 + k is node k. They share one number, since a reference is a word of the lent
+// memory.
 pub const LEAVES: u32 = 8;
 
 // The pairs that a node can test are 0 to 47.

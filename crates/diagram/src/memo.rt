@@ -15,7 +15,8 @@ const SECOND: usize = 2;
 
 const RESULT: usize = 3;
 
-// What the memo keeps a result of: an operation's key, and the references that it was done on.
+// What the memo keeps a result of: an operation's key, and the references that it was done on. The key is a number, since the
+// memo keeps it in a word.
 #[derive(Clone, Copy, Debug, PartialEq, Eq)]
 pub(crate) struct Operation {
     pub(crate) key: u32,

@@ -37,6 +37,7 @@ fn input(rt: &HostRuntime) -> io::Result<Vec<u8>>
     ensures { IfOk result (λ file. vec_len file ≤ 65536) }
 {
     let mut file = Vec::new(rt.alloc());
+    // by parts: no method of the library says how many bytes it takes at most
     'parts: while file.len() < LIMIT {
         let room = LIMIT - file.len();
         if read_part(rt, &mut file, room)? == 0 {

@@ -31,7 +31,8 @@ fn refusal(heap: Global, fault: ReadFault) -> Result<Text, AllocError>
     Ok(text)
 }
 
-// The formula of a file that reads well; the reader knows all that the file declares.
+// The formula of a file that reads well; the reader knows all that the file declares. That memory alone can be wanting is said
+// of each function that hands a failure on: no type of failures says which file it is about.
 fn add_formula(heap: Global, text: &mut Text, reader: &Reader, file: &[u8]) -> Result<(), Failure>
     ensures exact { OnOk result (Formulated text.old text.new (view.context reader.now) (reads file.now)) }
     ensures memory { NeedsMemoryAlone result (reads file.now) }

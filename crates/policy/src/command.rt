@@ -13,6 +13,7 @@ pub enum Command<'f> {
     Operator { digits: &'f [u8; 9] },
     // two pairs that never hold together
     Exclusion { first: u8, second: u8 },
+    // two limits, and not one with a kind: each is a command of its own in the format
     AtMost { attribute: u8, limit: u8 },
     AtLeast { attribute: u8, limit: u8 },
     // pushes the target of a pair

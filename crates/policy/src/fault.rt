@@ -24,6 +24,7 @@ pub enum ReadFault {
 }
 
 impl ReadFault {
+    // By a match: the cases hold places, so that `as` gives no number.
     pub fn number(self) -> u8
         ensures { result ≡ refusals.number self }
     {

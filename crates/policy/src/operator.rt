@@ -30,7 +30,7 @@ const STANDARD: [Row; 6] = [
 ];
 
 impl Row {
-    // The row of a standard code.
+    // The row of a standard code. By number: any may be asked for, and for one that is no standard code there is none.
     pub fn standard(code: u8) -> Option<Row>
         ensures { StandardRow result code }
     {

@@ -39,7 +39,8 @@ fn full(_refusal: Refusal) -> anyhow::Error {
     anyhow!("the table is full")
 }
 
-// The next number of a linear congruential generator; its high bits are the random ones.
+// The next number of a linear congruential generator; its high bits are the random ones. The tests have one of their own: a
+// program does not stand on them.
 fn random(state: &mut u64) -> u32 {
     *state = state
         .wrapping_mul(6_364_136_223_846_793_005)

@@ -16,13 +16,14 @@ fn ask<S: Source>(source: &S, n: u8) -> [bool; 48]
     ensures { (i : ℕ) → asked result i ≡ query_of n (S.Source.meaning source.now) i }
 {
     let mut query = [false; 48];
+    // by pair: the source is asked with its number
     for pair in 0..n {
         query[pair as usize] = source.tells(pair);
     }
     query
 }
 
-// The decision that a leaf stands for.
+// The decision that a leaf stands for. A leaf is a word of the table, and any above 1 counts as not applicable.
 fn decision(leaf: u32) -> Decision
     ensures { result ≡ decision_of leaf }
 {
@@ -44,7 +45,7 @@ impl Bench<'_> {
             .ok_or(Reason::NoShelf.on(shelf))
     }
 
-    // The policy on the shelf, draft or closed.
+    // The policy on the shelf, draft or closed. This, `closed` and `draft` differ in what they refuse and hand out.
     pub(super) fn policy(&self, shelf: u8) -> Result<Draft, Fault>
         ensures is { result ≡ policy_at (state_of self.now) shelf }
         ensures stands { DraftStands (state_of self.now) result }
@@ -86,7 +87,7 @@ impl Bench<'_> {
     }
 
     // Every decision that the pairs which the source does not tell could still bring, as a set: deny adds 1, allow 2 and
-    // not applicable 4. Refused where the source's query is not valid.
+    // not applicable 4: the number is a leaf of the table. Refused where the source's query is not valid.
     pub fn extend<S: Source>(&self, shelf: u8, source: &S) -> Result<u8, Fault>
         ensures { result ≡ extended (state_of self.now) shelf (S.Source.meaning source.now) }
     {

@@ -88,7 +88,7 @@ impl<'f> Reader<'f> {
         Operator::try_from(0x20 + before as u8).ok()
     }
 
-    // The operator of a two-operand code.
+    // The operator of a two-operand code. By number: any may be asked for, and for one that is no code so far there is none.
     #[tactic(auto, using(crate::proofs::Declared::by_standard))]
     pub fn row(&self, code: u8) -> Option<Row>
         ensures { RowOf result (context self.now).operators code }
