@@ -17,7 +17,8 @@ pub(crate) struct Span {
     ghost few: { start + count ≤ 48 },
 }
 
-// A reference for a node whose parts test later pairs.
+// A reference for a node whose parts test later pairs. Pairs are words of a node, and no type of their own: each function has
+// its own bound on them.
 fn node(diagrams: &mut Diagrams, pair: u32, low: u32, high: u32) -> Result<u32, TableFull>
     requires small { pair < 48 }
     requires before_low { Later (store_of diagrams.old) pair low }
@@ -96,8 +97,8 @@ impl Limit {
     }
 }
 
-// A row stands in an array of fixed size, and not in a vector of so many entries: nothing here allocates, and as entries are
-// replaced none is added or taken away.
+// A row is an array, and no vector that is popped: it keeps all its entries, and how many of them are replaced follows from the
+// pair, so that no count stands beside it.
 //
 // The most entries that a row has: one for each count of pairs, from 0 to 48.
 const PLACES: usize = 49;
@@ -113,7 +114,8 @@ fn leaves(limit: Limit) -> [u32; PLACES]
     row
 }
 
-// Replaces the first n entries of a row, each by the node of the pair over itself and the entry after it.
+// Replaces the first n entries of a row, each by the node of the pair over itself and the entry after it. `room` and `grown` are
+// said of two values, as on the methods of `Diagrams`.
 #[tactic(auto, using(diagram::proofs::Stands::grown_trans))]
 fn next_row(diagrams: &mut Diagrams, row: &mut [u32], pair: u32, n: usize) -> Result<(), TableFull>
     requires small { pair < 48 }

@@ -1,4 +1,4 @@
-ghost use Rattle.std.specs.Prelude.{◌≡◌, ◌<◌, length};
+ghost use Rattle.std.specs.Prelude.{◌≡◌, ◌<◌};
 ghost use Rattle.diagram.specs.Held.{room_of, store_of};
 ghost use Rattle.diagram.specs.Store.{Grown, mark};
 ghost use Rattle.bench.specs.Closing.{FillAfter, ToldLists, listing};

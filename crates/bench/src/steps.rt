@@ -4,7 +4,7 @@ ghost use Rattle.diagram.specs.Combining.{combined};
 ghost use Rattle.diagram.specs.Building.{Builds};
 ghost use Rattle.diagram.specs.Held.{room_of, store_of};
 ghost use Rattle.diagram.specs.Rules.{value_of};
-ghost use Rattle.diagram.specs.Store.{Grown, eval, mark};
+ghost use Rattle.diagram.specs.Store.{eval, mark};
 ghost use Rattle.diagram.specs.Told.{Closes, Gives};
 
 use diagram::{Diagrams, Kind, Rule, TableFull};

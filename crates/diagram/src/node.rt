@@ -9,7 +9,8 @@ pub struct Node {
     pub high: u32,
 }
 
-// The words of a node: these three, a bucket's head, a chain's link, and two that hold a count, or in a sweep a mark.
+// The words of a node: these three, a bucket's head, a chain's link, and two that hold a count, or in a sweep a mark. A head or a
+// link is 0 where there is none, and no `Option`, since it is a word.
 pub(crate) const SIZE: usize = 7;
 
 pub(crate) const LOW: usize = 1;

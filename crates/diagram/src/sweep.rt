@@ -1,4 +1,4 @@
-ghost use Rattle.std.specs.Prelude.{◌≡◌, ℕ, ◌+◌, ◌-◌, ◌*◌, ◌<◌, ◌≤◌, true, ◌||◌, map, length, slice_index};
+ghost use Rattle.std.specs.Prelude.{◌≡◌, ℕ, ◌+◌, ◌-◌, ◌*◌, ◌<◌, ◌≤◌, true, ◌||◌, map, slice_index};
 ghost use Rattle.diagram.specs.Store.{Sound};
 ghost use Rattle.diagram.specs.Sweeping.{Closed, OnlyMarks, mark_at, marked, marking, new_at, new_root, packed, reached, swept, wanted};
 ghost use Rattle.diagram.specs.Words.{Chained, capacity, node_at, stored};
@@ -9,7 +9,8 @@ use crate::table::{bucket_of, enter};
 
 // The functions below take a slice and a count: on the way the words are no table, so that `Diagrams` cannot hold them.
 
-// A node's mark stands where its count would: 0 for none, and once the node has moved, its new reference.
+// A node's mark stands where its count would: 0 for none, and once the node has moved, its new reference. It is a word, and no
+// `Option`, since the memory is words.
 const MARK: usize = COUNT;
 
 // Empties the chains, by the buckets of the nodes in use, and takes their marks away.

@@ -7,7 +7,8 @@ use crate::LEAVES;
 use crate::node::{HEAD, LINK, Node, SIZE, node_at, put_node};
 use crate::spread::spread;
 
-// A table is lent as words: the functions below take a slice and a count, with the facts of `Diagrams` as requires.
+// A rule of the project: what writes the lent words takes a slice. So the functions below take a slice and a count, and require
+// what the type of `Diagrams` holds.
 
 // The table has no room for a node that is needed.
 #[derive(Clone, Copy, Debug, PartialEq, Eq)]

@@ -5,7 +5,8 @@ mod build;
 
 pub(crate) use build::formula;
 
-// Two types, and not one tree over its leaves: a guard has a target and a policy in it, so its leaf would hold the tree.
+// Two types, and not one tree over its leaves, which is no plainer: a guard has a target and a policy in it, so the leaf of a
+// policy's tree would hold that tree again.
 #[derive(Drop)]
 pub enum Target {
     Pair(u8),

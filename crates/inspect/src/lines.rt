@@ -1,4 +1,5 @@
-// A line for each command of a file.
+// A line for each command of a file. The reader is lent to each method, and no part of a text: `lines` moves it on between two
+// lines, and no other may.
 #![tactic(auto, using(crate::proofs::Joins::then_adds))]
 
 ghost use Rattle.std.specs.Prelude.{◌++◌, codes, decimal};

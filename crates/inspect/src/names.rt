@@ -1,4 +1,4 @@
-// What operators, decisions, attributes and pairs are called.
+// What operators, decisions, attributes and pairs are called. By methods, and no `Display`: what that writes no contract says.
 #![tactic(auto, using(crate::proofs::Joins::then_adds, crate::proofs::Naming::kept_change, crate::proofs::Naming::kept_operator, crate::proofs::Naming::kept_constant))]
 
 ghost use Rattle.std.specs.Prelude.{◌≡◌};
@@ -8,7 +8,7 @@ ghost use Rattle.inspect.specs.Names as names;
 ghost use Rattle.inspect.specs.Written.{Adds};
 
 use crate::text::Text;
-use policy::{Change, Decision, Operator, Reader};
+use policy::{Attribute, Change, Decision, Operator, Reader};
 use std::alloc::AllocError;
 
 fn change_name(change: Change) -> &'static str
@@ -77,7 +77,7 @@ impl Text {
         ensures { Adds result self.old self.new (names.attribute_text (view.context reader.now) number) }
     {
         match reader.attribute(number) {
-            Some(attribute) => self.bytes(attribute.name),
+            Some(Attribute { name, .. }) => self.bytes(name),
             None => Ok(()),
         }
     }
@@ -86,11 +86,11 @@ impl Text {
     pub(crate) fn pair(&mut self, reader: &Reader, number: u8) -> Result<(), AllocError>
         ensures { Adds result self.old self.new (names.pair_text (view.context reader.now) number) }
     {
-        let Some(attribute) = reader.attribute_with(number) else {
+        let Some(Attribute { name, start, .. }) = reader.attribute_with(number) else {
             return Ok(());
         };
-        self.bytes(attribute.name)?;
+        self.bytes(name)?;
         self.add("=")?;
-        self.number(number.saturating_sub(attribute.start) as usize)
+        self.number(number.saturating_sub(start) as usize)
     }
 }

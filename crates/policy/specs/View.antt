@@ -110,8 +110,10 @@ Opens (Err f) r = Refuses f r
 abbrev pub checks_left : Reader → Encoded → c.Command → Step
 checks_left r e x = checked (progress r) (bytes r) e.place e.opcode x
 
--- a command of the file begins so, and its operands are there
+-- a command of the file begins so where the reader stands, and its operands are there
 pub record Begun (e : Encoded) (r : Reader) : Type 0 where
+  pub at : e.place ≡ place r
+  pub operands : e.operands.now ≡ c.bytes_from (bytes r) (place r + 1) (c.size e.opcode)
   pub short : length (bytes r) ≤ 65535
   pub within : e.next ≤ length (bytes r)
   pub is : next_step r ≡ checks_left r e (c.decoded e.opcode e.operands.now)

@@ -1,7 +1,6 @@
 // The checks of the opening, of a name and of nine digits.
-ghost use Rattle.std.specs.Prelude.{◌≡◌, ◌≤◌, length};
-ghost use Rattle.std.specs.List.{prefix_len};
-ghost use Rattle.policy.specs.Commands.{is_name, are_digits, printable, zeros};
+ghost use Rattle.std.specs.Prelude.{◌≡◌};
+ghost use Rattle.policy.specs.Commands.{is_name, are_digits, zeros};
 ghost use Rattle.policy.specs.Reading.{opening, differs};
 
 // What every policy file begins with.

@@ -8,7 +8,7 @@ use crate::{Change, Decision, Operator};
 #[derive(Clone, Copy, Debug, PartialEq, Eq)]
 pub enum Command<'f> {
     // a name of eight bytes, and how many values the attribute has
-    Attribute { name: &'f [u8], count: u8 },
+    Attribute { name: &'f [u8; 8], count: u8 },
     // an own operator by its nine digits
     Operator { digits: &'f [u8; 9] },
     // two pairs that never hold together
@@ -38,9 +38,20 @@ impl Command<'_> {
 }
 
 // An attribute that a file declares: its values are the pairs from `start` on.
-#[derive(Clone, Copy, Debug, Default, PartialEq, Eq)]
+#[derive(Clone, Copy, Debug, PartialEq, Eq)]
 pub struct Attribute<'f> {
-    pub name: &'f [u8],
+    pub name: &'f [u8; 8],
     pub start: u8,
     pub count: u8,
+}
+
+// Fills the places of a reader's vector that are free.
+impl Default for Attribute<'_> {
+    fn default() -> Self {
+        Attribute {
+            name: b"\0\0\0\0\0\0\0\0",
+            start: 0,
+            count: 0,
+        }
+    }
 }

@@ -26,7 +26,7 @@ impl<'f> Encoded<'f> {
         let operands = self.operands;
         let command = match self.opcode {
             Opcode::Attribute => Command::Attribute {
-                name: &operands[..8],
+                name: operands[..8].try_into().ok()?,
                 count: operands[8],
             },
             Opcode::Operator => Command::Operator {

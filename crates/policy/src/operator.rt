@@ -1,6 +1,7 @@
 ghost use Rattle.policy.specs.View.{StandardRow};
 
-// A two-operand operator: the entry 3 × first + second is its value.
+// A two-operand operator: the entry 3 × first + second is its value. The default fills the places of a reader's vector that are
+// free.
 #[derive(Clone, Copy, Debug, Default, PartialEq, Eq)]
 pub struct Row {
     pub entries: [u8; 9],

@@ -4,7 +4,7 @@ use crate::set::contains;
 use crate::{PAIRS, Source};
 
 // A set of pairs with one label; the pair i weighs 2^i.
-#[derive(Clone, Copy)]
+#[derive(Clone, Copy, Debug, PartialEq, Eq)]
 pub struct Card {
     pub pairs: u64,
     pub label: u8,

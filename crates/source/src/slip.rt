@@ -4,7 +4,7 @@ ghost use Rattle.source.specs.Slip.{slip as slip_meaning, HoldsEveryMeaning};
 use crate::{PAIRS, Source};
 
 // Received bytes, a pair and then its label.
-#[derive(Clone, Copy)]
+#[derive(Clone, Copy, Debug, PartialEq, Eq)]
 pub struct Slip<'b> {
     bytes: &'b [u8],
 }

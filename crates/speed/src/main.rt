@@ -34,13 +34,14 @@ const LARGE: usize = 3_000;
 // Each closing and count is done so often, and the best time stands.
 const RUNS: u32 = 9;
 
-// What a refusal here comes from: pairs are in order, and references stand.
+// What a refusal here comes from: pairs are in order, and references stand. By hand, since `?` asks refusals to print, and what
+// they print no contract could say.
 fn full(_refusal: Refusal) -> anyhow::Error {
     anyhow!("the table is full")
 }
 
-// The next number of a linear congruential generator; its high bits are the random ones. The tests have one of their own: a
-// program does not stand on them.
+// The next number of a linear congruential generator; its high bits are the random ones. The tests have their
+// own, and rules and a parity too: a program does not stand on them.
 fn random(state: &mut u64) -> u32 {
     *state = state
         .wrapping_mul(6_364_136_223_846_793_005)

@@ -211,7 +211,7 @@ fn declarations(rt: HostRuntime) {
     let reader = commands.reader();
     assert_eq!(rt; reader.pairs(), 5);
     let second = Attribute {
-        name: b"bcdefghi".as_slice(),
+        name: b"bcdefghi",
         start: 2,
         count: 3,
     };

@@ -10,13 +10,15 @@ use crate::shelf::{Draft, Lists, Shelf};
 use policy::Decision;
 use source::Source;
 
+// Not by the set of `query_of`, which would be taken apart again: the walk asks for one pair at a time.
+//
 // The pairs below n that the source tells, entry i for pair i; it is questioned for each of them, in rising order.
 fn ask<S: Source>(source: &S, n: u8) -> [bool; 48]
     requires { n ≤ 48 }
     ensures { (i : ℕ) → asked result i ≡ query_of n (S.Source.meaning source.now) i }
 {
     let mut query = [false; 48];
-    // by pair: the source is asked with its number
+    // by pair, and not by `array::from_fn`, of which the proof did not close
     for pair in 0..n {
         query[pair as usize] = source.tells(pair);
     }

@@ -12,7 +12,7 @@ use crate::refusal::Refusal;
 use crate::table::TableFull;
 use crate::{LEAVES, PAIRS};
 
-// The steps of building.
+// The steps of building. A reference that stands is a word with a bound on it, and no type: the bound moves with each new node.
 impl Diagrams<'_> {
     // The pair that a reference tests, and 48 at a leaf.
     pub(super) fn top(&self, r: u32) -> u32

@@ -15,7 +15,7 @@ use crate::{Attribute, Operator, Row};
 
 impl<'f> Reader<'f> {
     // Whether an attribute has this name.
-    pub(crate) fn declares(&self, name: &[u8]) -> bool
+    pub(crate) fn declares(&self, name: &[u8; 8]) -> bool
         ensures { result ≡ not (fresh name.now (context self.now).attributes) }
     {
         self.attributes
@@ -24,7 +24,7 @@ impl<'f> Reader<'f> {
     }
 
     // Whether an attribute of this name and count may be declared.
-    pub(crate) fn may_declare(&self, name: &[u8], count: u8) -> bool
+    pub(crate) fn may_declare(&self, name: &[u8; 8], count: u8) -> bool
         ensures { result ≡ allowed (context self.now) (attribute name.now count) }
     {
         is_name(name)
