@@ -1,5 +1,6 @@
 // Times building, closing and counting in a table of 65,536 nodes with a memo of 4,096 entries. The figures go to standard
-// error.
+// error. The diagrams and the state of the random numbers are lent side by side, and are no one value: some functions here take
+// only the one or the other.
 #![tactic(auto)]
 
 use anyhow::anyhow;
