@@ -4,7 +4,7 @@ ghost use Rattle.diagram.specs.Words.{capacity, stored};
 
 mod value;
 
-// Diagrams to look at: the words of a table, and how many of its nodes are in use.
+// Diagrams to look at: the words of a table, and how many of its nodes are in use. Words and a count, as in `Diagrams`.
 #[derive(Clone, Copy)]
 pub struct View<'t> {
     pub words: &'t [u32],

@@ -1,4 +1,4 @@
-ghost use Rattle.std.specs.Prelude.{◌≡◌};
+ghost use Rattle.std.specs.Prelude.{◌≡◌, replicate};
 ghost use Rattle.policy.specs.Commands as commands;
 ghost use Rattle.policy.specs.View.{command};
 
@@ -45,8 +45,10 @@ pub struct Attribute<'f> {
     pub count: u8,
 }
 
-// Fills the places of a reader's vector that are free.
+// Fills the places of a reader's vector that are free: no pairs, under a name of 00.
 impl Default for Attribute<'_> {
+    ghost is_default = { λ a. (a.name.now ≡ replicate 8 0) × (a.start ≡ 0) × (a.count ≡ 0) };
+
     fn default() -> Self {
         Attribute {
             name: b"\0\0\0\0\0\0\0\0",
