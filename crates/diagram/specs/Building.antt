@@ -8,7 +8,7 @@ use Rattle.diagram.specs.Held.{store_of, room_of}
 use Rattle.diagram.specs.Store.{Outcome, Grown}
 use Rattle.diagram.specs.Told.{Told}
 
--- the answer is the outcome, the room is as before, and newer nodes at most stand on the old ones
+-- the answer is the outcome, the room is as before, and nodes were at most added
 pub record Builds (outcome : Outcome) (old new : Diagrams) (r : Result ℕ TableFull) : Type 0 where
   pub told : Told outcome (store_of new) r
   pub room : room_of new ≡ room_of old

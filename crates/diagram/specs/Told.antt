@@ -10,7 +10,7 @@ abbrev pub Told : Outcome → Store → Result ℕ TableFull → Type 0
 Told outcome t (Ok r) = outcome ≡ done t r
 Told outcome t (Err e) = outcome ≡ full
 
--- the table is in order after a call, and newer nodes at most stand on the old ones
+-- the table is in order after a call, and nodes were at most added
 pub record Kept (old : List ℕ) (old_fill : ℕ) (new : List ℕ) (new_fill : ℕ) : Type 0 where
   pub chained : Chained new new_fill
   pub sound : Sound (stored new new_fill)

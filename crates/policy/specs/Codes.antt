@@ -1,21 +1,16 @@
 -- The program's enums of operators, by the codes that the format gives them.
-use Rattle.std.specs.Prelude.{◌≡◌, ℕ, Bool, false, ◌&&◌, ◌||◌, nat_le, Result, MatchResult}
+use Rattle.std.specs.Prelude.{◌≡◌, ℕ, Bool, false, Result, MatchResult}
 use Rattle.policy.specs.declared.code.UnknownCode.{UnknownCode}
 use Rattle.policy.specs.declared.code.Change.{Change}
 use Rattle.policy.specs.declared.code.Change.TheVariants.{Not, E1, OrDeny}
 use Rattle.policy.specs.declared.code.Operator.{Operator}
 use Rattle.policy.specs.declared.code.Operator.TheVariants.{And, WeakAnd, DenyOverrides, Or, WeakOr, AllowOverrides, Op20, Op21, Op22, Op23, Op24, Op25, Op26, Op27}
-use Rattle.policy.specs.Values.{is_standard}
 
 -- the code of a one-operand operator
 abbrev pub change_code : Change → ℕ
 change_code Not = 0x00
 change_code E1 = 0x01
 change_code OrDeny = 0x02
-
--- is it such a code?
-abbrev pub is_change : ℕ → Bool
-is_change code = nat_le code 2
 
 -- the code of a two-operand operator
 abbrev pub operator_code : Operator → ℕ
@@ -34,10 +29,6 @@ operator_code Op25 = 0x25
 operator_code Op26 = 0x26
 operator_code Op27 = 0x27
 
--- is it such a code, whatever own operators a file has?
-abbrev pub is_operator : ℕ → Bool
-is_operator code = is_standard code || (nat_le 0x20 code && nat_le code 0x27)
-
--- the byte is the code of what it is decoded to, or no code
+-- the answer of decoding a byte: what has it for its code; or the byte back, which is no code
 abbrev pub Decodes : {A : Type 0} → (A → ℕ) → (ℕ → Bool) → ℕ → Result A UnknownCode → Type 0
 Decodes code is_code byte r = MatchResult r (λ x. code x ≡ byte) (λ e. (e.0 ≡ byte) × (is_code byte ≡ false))

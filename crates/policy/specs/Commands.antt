@@ -8,8 +8,7 @@ use Rattle.policy.specs.declared.opcode.Opcode.{Opcode}
 use Rattle.policy.specs.declared.opcode.Opcode.TheVariants.{Attribute, Operator, Exclusion, AtMost, AtLeast, Pair, Allow, Deny, Change, Combine, Guard, End}
 use Rattle.policy.specs.declared.kind.Kind.{Kind}
 use Rattle.policy.specs.declared.kind.Kind.TheVariants.{Target, Policy}
-use Rattle.policy.specs.Values.{Digits, is_standard, is_own}
-use Rattle.policy.specs.Codes.{is_change, is_operator}
+use Rattle.policy.specs.Values.{Digits, is_change, is_standard, is_own, is_operator}
 use Rattle.policy.specs.Policies as p
 
 -- ---- what a command looks like
@@ -206,7 +205,7 @@ restricts x (least a k) = limits x a k
 abbrev pub acts : Context → Action → Bool
 acts x (push_pair i) = nat_lt i x.pairs
 acts x (push d) = true
-acts x (change code) = nat_le code 2
+acts x (change code) = is_change code
 acts x (combine code) = is_standard code || is_own x.operators code
 acts x guard = true
 acts x end = true

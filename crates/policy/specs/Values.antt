@@ -2,7 +2,7 @@
 --
 -- A target or a policy has one of three values. Of a target, 0 is no match, 1 is match and 2 is indeterminate.
 -- Of a policy, 0 is deny, 1 is allow and 2 is not applicable. Bytes are written in hexadecimal.
-use Rattle.std.specs.Prelude.{ℕ, ◌+◌, ◌-◌, ◌*◌, Bool, cond, ◌&&◌, List, [], ◌∷◌, length, nat_le, nat_lt, slice_index, slice_index_or}
+use Rattle.std.specs.Prelude.{ℕ, ◌+◌, ◌-◌, ◌*◌, Bool, cond, ◌&&◌, ◌||◌, List, [], ◌∷◌, length, nat_le, nat_lt, slice_index, slice_index_or}
 use Rattle.policy.specs.declared.decision.Decision.{Decision}
 use Rattle.policy.specs.declared.decision.Decision.TheVariants.{Deny, Allow, NotApplicable}
 
@@ -35,6 +35,10 @@ one_operand = (1 ∷ 0 ∷ 2 ∷ []) ∷ (0 ∷ 2 ∷ 1 ∷ []) ∷ (0 ∷ 1 ∷
 unfoldable pub change : ℕ → Value → Value
 change code v = slice_index (slice_index_or one_operand code []) v
 
+-- is it a one-operand code?
+abbrev pub is_change : ℕ → Bool
+is_change code = nat_le code 2
+
 -- a two-operand operator at two values: the digit 3 × first + second
 unfoldable pub apply : Digits → Value → Value → Value
 apply ds first second = slice_index ds (3 * first + second)
@@ -58,6 +62,10 @@ is_standard code = nat_le 0x10 code && nat_le code 0x15
 -- a file's own operators have the codes 20, 21, .. in the order of their declarations
 abbrev pub is_own : List Digits → ℕ → Bool
 is_own own code = nat_le 0x20 code && nat_lt code (0x20 + length own)
+
+-- is it a two-operand code, whatever own operators a file has? There can be eight
+abbrev pub is_operator : ℕ → Bool
+is_operator code = is_standard code || (nat_le 0x20 code && nat_le code 0x27)
 
 -- the operator of a two-operand code, where the file has these own operators
 unfoldable pub digits_of : List Digits → ℕ → Digits

@@ -36,7 +36,7 @@ command (code.Combine operator) = c.act (c.combine (operator_code operator))
 command code.Guard = c.act c.guard
 command code.End = c.act c.end
 
--- the command that is decoded to, or its code is none
+-- the answer of decoding a command: it, or none where the code of its operator is no code
 abbrev pub Decoded : Option Command → c.Command → Type 0
 Decoded None x = c.has_code x ≡ false
 Decoded (Some k) x = command k ≡ x

@@ -1,5 +1,6 @@
 ghost use Rattle.std.specs.Prelude.{◌≡◌};
-ghost use Rattle.policy.specs.Codes.{change_code, is_change, operator_code, is_operator, Decodes};
+ghost use Rattle.policy.specs.Codes.{change_code, operator_code, Decodes};
+ghost use Rattle.policy.specs.Values.{is_change, is_operator};
 
 // A byte that is no code of its kind.
 #[derive(Clone, Copy, Debug, PartialEq, Eq)]

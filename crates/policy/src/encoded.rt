@@ -19,7 +19,7 @@ impl<'f> Encoded<'f> {
     ghost use Rattle.policy.specs.Commands as commands;
     ghost use Rattle.policy.specs.View.{Decoded};
 
-    // The command; none where an operator's code is none.
+    // The command; none where the code of its operator is no code.
     pub(crate) fn decoded(self) -> Option<Command<'f>>
         ensures { Decoded result (commands.decoded self.entry.opcode self.entry.operands.now) }
     {

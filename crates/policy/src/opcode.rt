@@ -1,4 +1,4 @@
-ghost use Rattle.std.specs.Prelude.{◌≡◌};
+ghost use Rattle.std.specs.Prelude.{◌≡◌, IfErr};
 ghost use Rattle.std.specs.Result.{result_ok};
 ghost use Rattle.policy.specs.Commands as commands;
 ghost use Rattle.policy.specs.Parts.{part_number};
@@ -26,7 +26,7 @@ pub enum Opcode {
 impl TryFrom<u8> for Opcode {
     type Error = UnknownCode;
 
-    ghost try_from_gives = { λ byte r. result_ok r ≡ commands.opcode byte };
+    ghost try_from_gives = { λ byte r. (result_ok r ≡ commands.opcode byte) × IfErr r (λ e. e.0 ≡ byte) };
 
     fn try_from(byte: u8) -> Result<Opcode, UnknownCode> {
         match byte {
