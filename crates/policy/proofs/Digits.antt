@@ -1,5 +1,5 @@
 -- Digits of operators.
-use Rattle.std.proofs.Common.{◌≡◌, ℕ, zero, suc, ◌<◌, ◌≤◌, true, List, [], ◌∷◌, ◌++◌, get_or, refl, ◌∙◌, arith, lit<}
+use Rattle.std.proofs.Common.{◌≡◌, ℕ, zero, suc, ◌<◌, ◌≤◌, Bool, true, List, [], ◌∷◌, ◌++◌, get_or, refl, ◌∙◌, arith, lit<}
 use Rattle.std.proofs.lemmas.Bool.{and_parts, and_from, leb-true}
 use Rattle.std.proofs.lemmas.List.Folds.{list_all-append}
 use Rattle.std.specs.List.{list_all}
@@ -11,8 +11,11 @@ digits_at [] j e = refl
 digits_at (ds ∷ rest) zero e = (and_parts _ _ e).0
 digits_at (ds ∷ rest) (suc j) e = digits_at rest j (and_parts _ _ e).1
 
+pub all_push : {A : Type 0} (test : A → Bool) (xs : List A) (x : A) → list_all test xs ≡ true → test x ≡ true → list_all test (xs ++ (x ∷ [])) ≡ true
+all_push test xs x e d = list_all-append test xs (x ∷ []) ∙ and_from _ _ e (and_from _ _ d refl)
+
 pub digits_push : (rows : List Digits) (ds : Digits) → list_all are_digits rows ≡ true → are_digits ds ≡ true → list_all are_digits (rows ++ (ds ∷ [])) ≡ true
-digits_push rows ds e d = list_all-append are_digits rows (ds ∷ []) ∙ and_from _ _ e (and_from _ _ d refl)
+digits_push = all_push are_digits
 
 -- one test over the whole table of the standard operators, and one over the one-operand codes
 pub standard_digits : list_all are_digits standard ≡ true

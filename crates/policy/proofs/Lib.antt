@@ -4,6 +4,7 @@ pub mod Steps
 pub mod Scans
 pub mod Readers
 pub mod Digits
+pub mod Placed
 pub mod Dependence
 pub mod Enumeration
 pub mod Files

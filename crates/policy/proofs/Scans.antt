@@ -13,6 +13,7 @@ use Rattle.policy.specs.Reading.{Progress, Step, refused, took, step, first_step
 pub record Takes (k : Progress) (file : List ℕ) (p : ℕ) (c : Command) (k' : Progress) (q : ℕ) : Type 0 where
   pub op : Opcode
   pub is : c ≡ command file p op
+  pub within : p + 1 + size op ≤ length file
   pub allows : allowed k.context c ≡ true
   pub kinds : kinds_after c k.kinds ≡ Some k'.kinds
   pub room : length k'.kinds ≤ 16
@@ -50,15 +51,16 @@ some_part Guard = lit< tt
 some_part End = lit< tt
 
 module _ (k : Progress) (file : List ℕ) (p : ℕ) where
-  settled_takes : (o : Opcode) (c : Command) (ks : Option (List Kind)) → c ≡ command file p o → allowed k.context c ≡ true → kinds_after c k.kinds ≡ ks → Taking (Takes k file p) (settled k file p o c ks)
+  settled_takes : (o : Opcode) (c : Command) (ks : Option (List Kind)) → c ≡ command file p o → p + 1 + size o ≤ length file → allowed k.context c ≡ true → kinds_after c k.kinds ≡ ks → Taking (Takes k file p) (settled k file p o c ks)
   unfolding settled
-  settled_takes o c None e a s = not_taken
-  settled_takes o c (Some ks) e a s =
+  settled_takes o c None e w a s = not_taken
+  settled_takes o c (Some ks) e w a s =
       by_test (ltb 16 (length ks)) (λ _. not_taken) (λ (few : ltb 16 (length ks) ≡ false).
       by_test (is_end c && not (one_policy ks)) (λ _. not_taken) (λ (one : (is_end c && not (one_policy ks)) ≡ false).
       by_test (is_end c && ltb (p + 1) (length file)) (λ _. not_taken) (λ (end : (is_end c && ltb (p + 1) (length file)) ≡ false). is_taken (record {
         op = o;
         is = e;
+        within = w;
         allows = a;
         kinds = s;
         room = ltb-false _ _ few;
@@ -74,8 +76,8 @@ module _ (k : Progress) (file : List ℕ) (p : ℕ) where
   begun_takes None = not_taken
   begun_takes (Some o) =
       by_test (ltb (part o) k.part) (λ _. not_taken) (λ _.
-      by_test (ltb (length file) (p + 1 + size o)) (λ _. not_taken) (λ _.
-      by_test (allowed k.context (command file p o)) (λ a. settled_takes o (command file p o) _ refl a refl) (λ _. not_taken)))
+      by_test (ltb (length file) (p + 1 + size o)) (λ _. not_taken) (λ (fits : ltb (length file) (p + 1 + size o) ≡ false).
+      by_test (allowed k.context (command file p o)) (λ a. settled_takes o (command file p o) _ refl (ltb-false _ _ fits) a refl) (λ _. not_taken)))
 
   command_takes : Taking (Takes k file p) (command_step k file p)
   unfolding command_step

@@ -8,6 +8,7 @@ pub mod Reading
 pub mod Refusals
 pub mod Codes
 pub mod Rows
+pub mod Placed
 pub mod View
 pub mod Laws
 pub mod Examples

@@ -3,6 +3,7 @@ ghost use Rattle.std.specs.List.{list_all};
 ghost use Rattle.arrayvec.specs.ArrayVec.{array_vec_len};
 ghost use Rattle.policy.specs.Commands.{are_digits};
 ghost use Rattle.policy.specs.Parts.{reached};
+ghost use Rattle.policy.specs.Placed.{NamesWithin, OperatorsWithin};
 ghost use Rattle.policy.specs.Rows.{tables};
 
 use crate::kinds::Kinds;
@@ -38,5 +39,8 @@ pub struct Reader<'f> {
     ghost some: { array_vec_len attributes ≤ pairs },
     ghost few: { pairs ≤ 48 },
     ghost eight: { array_vec_len operators ≤ 8 },
+    // names, and the digits of own operators, are parts of the file
+    ghost named: { NamesWithin file.now attributes.items },
+    ghost held: { OperatorsWithin file.now operators.items },
     ghost digits: { list_all are_digits (tables operators.items) ≡ true },
 }

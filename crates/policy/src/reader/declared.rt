@@ -1,10 +1,11 @@
 // What a file has declared so far.
-ghost use Rattle.std.specs.Prelude.{◌≡◌, not, ◌||◌};
+ghost use Rattle.std.specs.Prelude.{◌≡◌, ◌≤◌, true, not, ◌||◌, IfSome};
 ghost use Rattle.std.specs.Option.{option_map};
 ghost use Rattle.std.specs.List.{slice_get};
 ghost use Rattle.policy.specs.Commands.{attribute, operator, exclusion, fresh, limits, allowed, restricts};
 ghost use Rattle.policy.specs.Codes.{operator_code};
 ghost use Rattle.policy.specs.Values.{is_standard, is_own};
+ghost use Rattle.policy.specs.Placed.{part_of};
 ghost use Rattle.policy.specs.Reading.{attribute_with};
 ghost use Rattle.policy.specs.View as view;
 ghost use Rattle.policy.specs.View.{context, RowOf};
@@ -62,16 +63,19 @@ impl<'f> Reader<'f> {
         self.row(operator.code()).is_some()
     }
 
-    // The attribute with this number; attributes are numbered from 0 in the order of their declarations.
+    // The attribute with this number; its name is a part of the file. Attributes are numbered from 0 in the order of their
+    // declarations.
     pub fn attribute(&self, number: u8) -> Option<Attribute<'f>>
-        ensures { option_map view.attribute result ≡ slice_get (context self.now).attributes number }
+        ensures is { option_map view.attribute result ≡ slice_get (context self.now).attributes number }
+        ensures part { IfSome result (λ a. part_of (view.bytes self.now) 8 a.name.now ≡ true) }
     {
         self.attributes.get(number as usize).copied()
     }
 
-    // The attribute that a pair is a value of.
+    // The attribute that a pair is a value of; its name is a part of the file.
     pub fn attribute_with(&self, pair: u8) -> Option<Attribute<'f>>
-        ensures { option_map view.attribute result ≡ attribute_with (context self.now).attributes pair }
+        ensures is { option_map view.attribute result ≡ attribute_with (context self.now).attributes pair }
+        ensures part { IfSome result (λ a. part_of (view.bytes self.now) 8 a.name.now ≡ true) }
     {
         let pair = pair as usize;
         self.attributes
@@ -88,10 +92,12 @@ impl<'f> Reader<'f> {
         Operator::try_from(0x20 + before as u8).ok()
     }
 
-    // The operator of a two-operand code. By number: any may be asked for, and for one that is no code so far there is none.
+    // The operator of a two-operand code; the digits of an own one are a part of the file. By number: any may be asked for, and
+    // for one that is no code so far there is none.
     #[tactic(auto, using(crate::proofs::Declared::by_standard))]
     pub fn row(&self, code: u8) -> Option<Row>
-        ensures { RowOf result (context self.now).operators code }
+        ensures is { RowOf result (context self.now).operators code }
+        ensures part { 0x20 ≤ code → IfSome result (λ row. part_of (view.bytes self.now) 9 row.entries ≡ true) }
     {
         match code.checked_sub(0x20) {
             Some(own) => self.operators.get(own as usize).copied(),

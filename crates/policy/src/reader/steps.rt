@@ -164,6 +164,9 @@ impl<'f> Reader<'f> {
         ensures is { told (Ok checked.entry.command) self.new ≡ next_step self.old }
         ensures same { bytes self.new ≡ bytes self.old }
     {
+        self.kinds.apply(checked.effect);
+        self.part = Some(checked.part);
+        self.place = checked.next;
         match checked.command {
             Command::Attribute { name, count } => {
                 let start = self.pairs;
@@ -173,9 +176,6 @@ impl<'f> Reader<'f> {
             Command::Operator { digits } => self.operators.push(Row { entries: *digits }),
             _ => {}
         }
-        self.kinds.apply(checked.effect);
-        self.part = Some(checked.part);
-        self.place = checked.next;
     }
 
     // The next command, or why the file is refused; then the reader stays as it is. After the end there is no command.
