@@ -1,5 +1,5 @@
 -- What is ahead of a reader.
-use Rattle.std.proofs.Common.{◌≡◌, ℕ, suc, ◌<◌, ◌≤◌, true, false, cond, List, [], ◌∷◌, length, Ok, Err, sym, refl, ap, ◌∙◌, subst}
+use Rattle.std.proofs.Common.{◌≡◌, ℕ, suc, ◌<◌, ◌≤◌, Bool, true, false, cond, List, [], ◌∷◌, length, Ok, Err, sym, refl, ap, ◌∙◌, subst}
 use Rattle.std.proofs.lemmas.Bool.{cond-true, cond-false}
 use Rattle.policy.specs.declared.command.Command.{Command}
 use Rattle.policy.specs.declared.fault.ReadFault.{ReadFault}
@@ -30,6 +30,14 @@ module _ (r s : Reader) where
     first_ahead b =
         ahead_first (progress r) (bytes r) (place r) (command x) (progress s) (place s) e ∙
         ap (λ f. command x ∷ (scan (suc (length f)) (progress s) f (place s)).commands) (sym b)
+
+    -- the first command of those to come: after the end there are none
+    pub first_to_come : bytes s ≡ bytes r → (ahead r).commands ≡ command x ∷ cond (is_end (command x)) [] (ahead s).commands
+    first_to_come b = ap (λ a. a.commands) (ahead_of_taken b) ∙ by (is_end (command x))
+      where
+        by : (t : Bool) → (cond t (record { commands = command x ∷ []; stop = ended (progress s) }) (before (command x) (ahead s))).commands ≡ command x ∷ cond t [] (ahead s).commands
+        by true = refl
+        by false = refl
 
     pub stop_last : bytes s ≡ bytes r → is_end (command x) ≡ true → (ahead r).stop ≡ ended (progress s)
     stop_last b t = ap (λ a. a.stop) (ahead_of_taken b ∙ cond-true _ _ _ t)

@@ -180,7 +180,7 @@ Answers (Err e) (fault m p) = (number e ≡ m) × (fault_place e ≡ p)
 
 -- the commands that are still to come
 abbrev pub to_come : Commands → List c.Command
-to_come s = (ahead s.reader).commands
+to_come s = cond s.over [] (ahead s.reader).commands
 
 -- the first of them is yielded, and the others are then to come; or there are none
 abbrev pub Yields : Commands → Option Command → Commands → Type 0

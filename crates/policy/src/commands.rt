@@ -7,4 +7,6 @@ mod next;
 #[derive(Drop)]
 pub struct Commands<'f> {
     reader: Reader<'f>,
+    // none is to come: a flag beside the reader, which would check and refuse the same bytes at each further call
+    over: bool,
 }

@@ -13,6 +13,7 @@ impl<'f> Commands<'f> {
     {
         Commands {
             reader: Reader::new(file),
+            over: false,
         }
     }
 
@@ -31,8 +32,13 @@ impl<'f> Iterator for Commands<'f> {
 
     ghost remaining = { item_count to_come };
 
-    #[tactic(auto, using(crate::proofs::Readers::first_ahead, crate::proofs::Readers::ahead_of_refused))]
+    #[tactic(auto, using(crate::proofs::Readers::first_to_come, crate::proofs::Readers::ahead_of_refused))]
     fn next(&mut self) -> Option<Command<'f>> {
-        self.reader.next().ok()
+        if self.over {
+            return None;
+        }
+        let command = self.reader.next().ok();
+        self.over = command.map_or(true, |command| command.is_end());
+        command
     }
 }
