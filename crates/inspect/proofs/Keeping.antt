@@ -1,9 +1,15 @@
--- Numbers are printable, so that a text keeps them whole.
-use Rattle.std.proofs.Common.{◌≡◌, ℕ, ◌+◌, ◌%◌, ◌^◌, ◌<◌, Bool, true, false, cond, ◌||◌, eqb, leb, [], ◌∷◌, ◌++◌, decimal, refl, ap, ◌∙◌, mod-lt, arith}
+-- A plain text is kept whole; numbers are plain.
+use Rattle.std.proofs.Common.{◌≡◌, ℕ, ◌+◌, ◌%◌, ◌^◌, ◌<◌, Bool, true, false, cond, ◌||◌, eqb, leb, List, [], ◌∷◌, decimal, refl, ap, ◌∙◌, mod-lt, arith}
 use Rattle.std.proofs.lemmas.Fmt.{decimal_by_steps}
-use Rattle.std.proofs.lemmas.List.Elements.{filter-append}
-use Rattle.std.proofs.lemmas.Bool.{and_from, le-leb}
-use Rattle.inspect.specs.Plain.{is_plain, kept}
+use Rattle.std.proofs.lemmas.List.Folds.{list_all-append}
+use Rattle.std.proofs.lemmas.Bool.{and_from, and_parts, le-leb}
+use Rattle.inspect.specs.Plain.{is_plain, all_plain, kept}
+
+pub kept_plain : (bs : List ℕ) → all_plain bs ≡ true → kept bs ≡ bs
+kept_plain [] e = refl
+kept_plain (b ∷ bs) e =
+    let plain = and_parts _ _ e in
+    ap (λ t. cond t (b ∷ kept bs) (kept bs)) plain.0 ∙ ap (λ k. b ∷ k) (kept_plain bs plain.1)
 
 digit_plain : (d : ℕ) → d < 10 → is_plain (48 + d) ≡ true
 digit_plain d l =
@@ -15,10 +21,13 @@ digit_plain d l =
     by true e = refl
     by false e = e
 
-kept_digit : (d : ℕ) → d < 10 → kept ((48 + d) ∷ []) ≡ (48 + d) ∷ []
-kept_digit d l = ap (λ t. cond t ((48 + d) ∷ []) []) (digit_plain d l)
+one_plain : (d : ℕ) → d < 10 → all_plain ((48 + d) ∷ []) ≡ true
+one_plain d l = and_from _ _ (digit_plain d l) refl
+
+pub plain_decimal : (n : ℕ) → n < 2 ^ 64 → all_plain (decimal n) ≡ true
+plain_decimal =
+    decimal_by_steps (λ n ds. all_plain ds ≡ true) one_plain
+    (λ n ds l h. list_all-append is_plain ds ((48 + n % 10) ∷ []) ∙ and_from _ _ h (one_plain (n % 10) (mod-lt n (omega arith))))
 
 pub kept_decimal : (n : ℕ) → n < 2 ^ 64 → kept (decimal n) ≡ decimal n
-kept_decimal =
-    decimal_by_steps (λ n ds. kept ds ≡ ds) kept_digit
-    (λ n ds l h. let d : n % 10 < 10 = mod-lt n (omega arith) in filter-append is_plain ds ((48 + n % 10) ∷ []) ∙ ap (λ k. k ++ kept ((48 + n % 10) ∷ [])) h ∙ ap (λ k. ds ++ k) (kept_digit (n % 10) d))
+kept_decimal n l = kept_plain (decimal n) (plain_decimal n l)

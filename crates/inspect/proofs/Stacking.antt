@@ -54,9 +54,19 @@ pub stack_push : (x : Context) (items : List i.Item) (new : i.Item) → stack x 
 stack_push x items new = ap reverse (map-append (item x) items (new ∷ [])) ∙ reverse-append (map (item x) items) (item x new ∷ [])
 
 module _ (x : Context) where
+  -- an item was pushed, as the command asks
+  pub by_push : (new mid low : List i.Item) (it it' : i.Item) (s : List Item) (c c' : Command) → new ≡ mid ++ (it ∷ []) → mid ≡ low → it ≡ it' → c ≡ c' → item x it' ∷ stack x low ≡ puts x c' s → stack x new ≡ puts x c s
+  by_push new mid low it it' s c c' e d f g h =
+      ap (stack x) e ∙ stack_push x mid it ∙ ap (λ (u : i.Item). item x u ∷ stack x mid) f ∙ ap (λ (l : List i.Item). item x it' ∷ stack x l) d ∙ h ∙
+      ap (λ (k : Command). puts x k s) (sym g)
+
   -- an item was popped
   pub popped_one : (old mid : List i.Item) (it : i.Item) → old ≡ mid ++ (it ∷ []) → item x it ∷ stack x mid ≡ stack x old
   popped_one old mid it e = sym (ap (stack x) e ∙ stack_push x mid it)
+
+  -- two items were popped
+  pub popped_two : (old mid low : List i.Item) (second first : i.Item) → old ≡ mid ++ (second ∷ []) → mid ≡ low ++ (first ∷ []) → item x second ∷ item x first ∷ stack x low ≡ stack x old
+  popped_two old mid low second first e f = ap (λ (s : List Item). item x second ∷ s) (popped_one mid low first f) ∙ popped_one old mid second e
 
 -- the tree that is left in the end
 pub finished : (file : List ℕ) (tree : q.Policy) (items rest : List i.Item) → items ≡ rest ++ (item_of_kind.Policy tree ∷ []) → stack (all_declared file) items ≡ stack_under (all_declared file) (commands_of file) [] → Builds (Ok tree) (reads file)
